@@ -1,0 +1,4 @@
+pub mod Totals
+pub mod Faults
+pub mod Recall
+pub mod Waits
