@@ -31,6 +31,8 @@ use Rattle.counting.specs.Moves.{stepped, answered, meaningOf, stageAt, put, p
 use Rattle.counting.specs.Model.{stateOf}
 use Rattle.counting.proofs.Steps.{used-held}
 use Rattle.counting.proofs.Means.{root-at, has-engaged}
+use Rattle.counting.specs.declared.label.Label.{Label}
+use Rattle.counting.specs.Labels.{labelOf, labelAnswer}
 use Rattle.counting.specs.Calls.{opens, openAnswer, publishes, publishAnswer, closes, closeAnswer, steps, stepAnswer}
 use Rattle.counting.proofs.Bridge.{good, stage-here, row-here}
 use Rattle.counting.proofs.Exact.{refused-state, refused-answer, done-state, done-answer}
@@ -92,6 +94,9 @@ module _ (k : Counting) (p : ℕ) (within : p < k .programs) where
   -- the enquiries
   pub stage-says : Ok (getD (k .stages) p Idle) ≡ stageAnswer (meaningOf (stateOf k)) p
   stage-says = sym (ap (λ o. answer o (stageAt (stateOf k) p)) (in-range p (k .programs) None within) ∙ ap (λ st. Ok st) (stage-here k p within))
+
+  pub label-says : (o : Option Label) → o ≡ labelOf (getD (k .stages) p Idle) → Ok o ≡ labelAnswer (stateOf k) p
+  label-says o is = sym (ap (λ x. answer x (labelOf (stageAt (stateOf k) p))) (in-range p (k .programs) None within) ∙ ap (λ st. Ok (labelOf st)) (stage-here k p within) ∙ ap (λ x. Ok x) (sym is))
 
   root-cond : (r : Result ℕ Fault) → rootOf (meaningOf (stateOf k)) (has (getD (k .stages) p Idle)) ≡ r → rootAnswer (meaningOf (stateOf k)) p ≡ r
   root-cond r e = ap (λ b. cond b (rootOf (meaningOf (stateOf k)) (has (stageAt (stateOf k) p))) (Err (fault NoProgram))) (lt-ltb p (k .programs) within) ∙ ap (λ st. rootOf (meaningOf (stateOf k)) (has st)) (stage-here k p within) ∙ e

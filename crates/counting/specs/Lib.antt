@@ -2,3 +2,4 @@ pub mod State
 pub mod Moves
 pub mod Calls
 pub mod Model
+pub mod Labels
