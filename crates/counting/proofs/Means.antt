@@ -10,7 +10,7 @@ use lib.ListN.{length, getD, set, length-set}
 use lib.Seq.{getD-set-same, getD-set-other, map-set}
 use Rattle.std.specs.declared.option.Option.{Option}
 use Rattle.std.specs.declared.option.Option.the-variants.{Some, None}
-use Rattle.std.proofs.shelf.Lists.{length-map}
+use Rattle.std.proofs.shelf.Lists.{length-map, getD-past}
 use Rattle.std.proofs.shelf.Tests.{cases-eq, cases-lt, eq-eqb, ne-eqb, eqb-true, false≢true}
 use Rattle.std.proofs.shelf.Ways.{tells}
 use Rattle.keeper.specs.declared.version.Version.{Version}
@@ -83,11 +83,6 @@ has-engaged (Closing b) s e = absurd (omega (arith, none-some s e))
 left-at : (v : State) (p : ℕ) → leftOf (meaningOf v) p ≡ pace (stageAt v p)
 left-at v p = getD-map pace (v .stages) p Idle
 
-beyond : (xs : List Stage) (p : ℕ) → length xs ≤ p → getD xs p Idle ≡ Idle
-beyond [] p h = refl
-beyond (x ∷ xs) zero h = absurd (omega arith)
-beyond (x ∷ xs) (suc p) h = beyond xs p (omega arith)
-
 pub laws : (v : State) → Good v → Laws (meaningOf v)
 laws v g = record {
   staged = g .sized .2;
@@ -102,7 +97,7 @@ laws v g = record {
     had : (p s : ℕ) → has (stageAt v p) ≡ Some s → 0 < total (onRow (serialIs s)) (v .rows)
     had p s e = ⊎-elim
         (λ (h : p < v .programs). used-held v g p s h (has-engaged (stageAt v p) s e))
-        (λ (h : v .programs ≤ p). absurd (omega (arith, none-some s (sym (ap has (beyond (v .stages) p (omega (arith, g .sized)))) ∙ e))))
+        (λ (h : v .programs ≤ p). absurd (omega (arith, none-some s (sym (ap has (getD-past (v .stages) p Idle (omega (arith, g .sized)))) ∙ e))))
         (cases-lt p (v .programs))
 
 -- m with other steps left
@@ -229,7 +224,7 @@ module _ (v : State) (g : Good v) (p : ℕ) (within : p < v .programs) where
             total-set (uses s) (v .stages) p Idle Idle (omega (arith, g .sized)),
             total-at (uses s) rest q Idle (simp length-set (omega (arith, g .sized))),
           ))
-          (λ (far : v .programs ≤ q). omega (arith, none-some s (sym (ap has (beyond (v .stages) q (omega (arith, g .sized)))) ∙ h)))
+          (λ (far : v .programs ≤ q). omega (arith, none-some s (sym (ap has (getD-past (v .stages) q Idle (omega (arith, g .sized)))) ∙ h)))
           (cases-lt q (v .programs)))
           (cases-eq q p)
 

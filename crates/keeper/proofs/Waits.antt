@@ -15,7 +15,7 @@ use Rattle.std.specs.declared.option.Option.the-variants.{Some, None}
 use Rattle.std.specs.declared.result.Result.{Result}
 use Rattle.std.specs.declared.result.Result.the-variants.{Ok, Err}
 use Rattle.std.proofs.shelf.Tests.{cases-lt, cases-eq, eq-eqb, ne-eqb, lt-ltb}
-use Rattle.std.proofs.shelf.Lists.{take-more}
+use Rattle.std.proofs.shelf.Lists.{take-more, getD-past}
 use Rattle.keeper.specs.declared.version.Version.{Version}
 use Rattle.keeper.specs.declared.stage.Stage.{Stage}
 use Rattle.keeper.specs.declared.stage.Stage.the-variants.{Idle, Opening, Open as OpenOn, Offering, Offered, Closing}
@@ -98,16 +98,11 @@ pub record Waiting (m : Meaning) (p : ℕ) (cs : List Action) (most : ℕ) (n : 
   pub recalled : Recalled called (m .current .serial) cs n
   pub opening : OpeningSince n p (m .current .serial) most
 
-beyond : (xs : List Stage) (p : ℕ) → length xs ≤ p → getD xs p Idle ≡ Idle
-beyond [] p h = refl
-beyond (x ∷ xs) zero h = absurd (omega arith)
-beyond (x ∷ xs) (suc p) h = beyond xs p (omega arith)
-
 -- a program that is not idle is one of the programs
 pub seated-by-stage : (n : Meaning) (p since : ℕ) (b : Option ℕ) → Laws n → stageOf n p ≡ Opening since b → p < n .programs
 seated-by-stage n p since b laws e = ⊎-elim
     (λ (h : p < n .programs). h)
-    (λ (far : n .programs ≤ p). let z : _≡_ {A = ℕ} 0 1 = not-idle (sym (beyond (n .stages) p (omega (arith, laws .staged))) ∙ e) in absurd (omega arith))
+    (λ (far : n .programs ≤ p). let z : _≡_ {A = ℕ} 0 1 = not-idle (sym (getD-past (n .stages) p Idle (omega (arith, laws .staged))) ∙ e) in absurd (omega arith))
     (cases-lt p (n .programs))
   where
     not-idle : {a : ℕ} {x : Option ℕ} → Idle ≡ Opening a x → _≡_ {A = ℕ} 0 1

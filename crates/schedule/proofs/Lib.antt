@@ -1,0 +1,4 @@
+pub mod Figures
+pub mod Lines
+pub mod Marks
+pub mod Steps
