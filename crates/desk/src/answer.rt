@@ -54,7 +54,10 @@ fn write_stage<W: fmt::Write>(stage: Stage, f: &mut fmt::Formatter<W>) -> fmt::R
     match stage {
         Stage::Idle => write!(f, "idle"),
         Stage::Opening { since, bound: None } => write!(f, "opening since {since}"),
-        Stage::Opening { since, bound: Some(serial) } => write!(f, "opening since {since} bound {serial}"),
+        Stage::Opening {
+            since,
+            bound: Some(serial),
+        } => write!(f, "opening since {since} bound {serial}"),
         Stage::Open(serial) => write!(f, "open {serial}"),
         Stage::Offering { root, over } => write!(f, "offering {root} over {over}"),
         Stage::Offered(over) => write!(f, "offered {over}"),

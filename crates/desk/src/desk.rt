@@ -9,7 +9,7 @@ use counting::CountingEnquiry;
 use counting::CountingKeeper;
 use schedule::Call;
 use schedule::Kind;
-use schedule::read::read;
+use schedule::read;
 use std::fmt;
 
 // The keeper that the calls go to: the one that was made last.

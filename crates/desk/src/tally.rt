@@ -52,6 +52,9 @@ pub impl fmt::Display for Tally as TallyDisplay {
         let calls = self.calls;
         let refused = self.refused;
         let unreadable = self.unreadable;
-        write!(f, "{calls} calls, {refused} refused, {unreadable} unreadable")
+        write!(
+            f,
+            "{calls} calls, {refused} refused, {unreadable} unreadable"
+        )
     }
 }

@@ -52,8 +52,7 @@ pub record OpeningSince (n : Meaning) (p since most : ℕ) : Type 0 where
 -- another program's call that begins an operation leaves p alone
 begun-stays : {m n : Meaning} {p q most : ℕ} {st : Stage} → (q ≡ p → ⊥) → Begun m q st most n → (stageOf n p ≡ stageOf m p) × (leftOf n p ≡ leftOf m p)
 begun-stays {m = m} {n = n} {p = p} {q = q} {st = st} ne b =
-    let other : p ≢ q = λ e. ne (sym e) in
-    (
+    let other : p ≢ q = λ e. ne (sym e) in (
       ap (λ x. stageOf x p) (b .after) ∙ getD-set-other (m .stages) q p st Idle other,
       ap (λ x. leftOf x p) (b .after) ∙ getD-set-other (m .left) q p (leftOf n q) 0 other,
     )

@@ -81,7 +81,11 @@ fn perform_turn<K: Keeper>(keeper: &mut K, program: u32, others: &[&[Action]], t
 
 // Opens a version for a program while others act: before its own step number i they make the calls `others[i]`.
 // Whatever these are, the open ends within the declared steps.
-pub fn open_among<K: Keeper>(keeper: &mut K, program: u32, others: &[&[Action]]) -> Result<Opened, Fault>
+pub fn open_among<K: Keeper>(
+    keeper: &mut K,
+    program: u32,
+    others: &[&[Action]],
+) -> Result<Opened, Fault>
     ensures { λ r. ⌜ OpenedAmong (K·Enquiry .meaning (now (keeper .entry))) program (callsIn (now (others .entry))) (K·Enquiry .meaning (now (keeper .exit))) r ⌝ }
 {
     keeper.open(program)?;

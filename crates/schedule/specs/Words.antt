@@ -10,8 +10,8 @@ use Rattle.schedule.specs.declared.call.Call.{Call}
 use Rattle.schedule.specs.declared.call.Call.the-variants as call
 use Rattle.schedule.specs.declared.call.Kind.{Kind}
 use Rattle.schedule.specs.declared.call.Kind.the-variants.{Counting}
-use Rattle.schedule.specs.declared.read.Word.{Word}
-use Rattle.schedule.specs.declared.read.Word.the-variants as word
+use Rattle.schedule.specs.declared.line.Word.{Word}
+use Rattle.schedule.specs.declared.line.Word.the-variants as word
 use Rattle.schedule.specs.Pieces.{andThen, cutAt, leadIn, numberIn}
 
 abbrev pub wordOf : List ℕ → Option Word

@@ -3,7 +3,7 @@
 // The calls that a line can ask for.
 mod call;
 // Reads a line.
-pub mod read;
+mod line;
 // The pieces of a line: numbers, and what stands before and behind a mark.
 mod text;
 
@@ -13,4 +13,5 @@ pub use call::CallPartialEq;
 pub use call::Kind;
 pub use call::KindDebug;
 pub use call::KindPartialEq;
+pub use line::read;
 pub use text::number;

@@ -27,7 +27,7 @@ returns-in-Break-outcome g c =
     let k = c .open .last .self in
     let n = c .perform-turn .last .keeper in
     let w = turn-waiting (meaning (c .args .keeper .now)) (meaning k) (c .args .program) (c .declared-most .result .opening) (c .loop-turn .turn) (callsIn (c .args .others .now))
-        (laws (c .args .keeper .now)) (laws k) (c .in-Continue-open .ensures tt) (ap (λ d. d .opening) (c .declared-most .ensures)) (c .loop-turn .inv) (c .perform-turn .ensures) in
+    (laws (c .args .keeper .now)) (laws k) (c .in-Continue-open .ensures tt) (ap (λ d. d .opening) (c .declared-most .ensures)) (c .loop-turn .inv) (c .perform-turn .ensures) in
     absurd (never-refused _ _ (step-allowed _ _ _ _ _ (laws n) w) (c .in-Break-outcome .ensures tt .0))
 
 pub returns-in-Opened : need.returns-in-Opened
@@ -38,7 +38,7 @@ returns-in-Opened g c =
     let n = c .perform-turn .last .keeper in
     let o = c .step .last .self in
     let w = turn-waiting (meaning (c .args .keeper .now)) (meaning k) (c .args .program) (c .declared-most .result .opening) (c .loop-turn .turn) (callsIn (c .args .others .now))
-        (laws (c .args .keeper .now)) (laws k) (c .in-Continue-open .ensures tt) (ap (λ d. d .opening) (c .declared-most .ensures)) (c .loop-turn .inv) (c .perform-turn .ensures) in
+    (laws (c .args .keeper .now)) (laws k) (c .in-Continue-open .ensures tt) (ap (λ d. d .opening) (c .declared-most .ensures)) (c .loop-turn .inv) (c .perform-turn .ensures) in
     let says = subst (λ (x : Outcome). StepSays (meaning n) (c .args .program) (meaning o) (Ok x)) (c .in-Opened .is) (c .in-Continue-outcome .ensures tt) in
     ends-open _ _ _ _ _ (laws n) w (callsIn (c .args .others .now)) (meaning o) (c .in-Opened .serial) (c .in-Continue-root .root) (c .loop-turn .turn) refl says (laws o) (c .in-Continue-root .ensures tt)
     (omega (arith, c .loop-turn-test .taken, ap (λ d. d .opening) (c .declared-most .ensures), ap (λ x. x .declared .opening) (c .in-Continue-open .ensures tt .1 .after)))
@@ -67,5 +67,5 @@ unreachable-requires g c κs =
     let laws = g .K·Enquiry·met .sound in
     let k = c .open .last .self in
     let w = c .loop-turn .inv (meaning (c .args .keeper .now))
-        (begins-waiting (meaning (c .args .keeper .now)) (meaning k) (c .args .program) (c .declared-most .result .opening) (laws (c .args .keeper .now)) (laws k) (c .in-Continue-open .ensures tt) (ap (λ d. d .opening) (c .declared-most .ensures))) in
+    (begins-waiting (meaning (c .args .keeper .now)) (meaning k) (c .args .program) (c .declared-most .result .opening) (laws (c .args .keeper .now)) (laws k) (c .in-Continue-open .ensures tt) (ap (λ d. d .opening) (c .declared-most .ensures))) in
     omega (arith, steps-left _ _ _ _ _ (laws (c .loop-turn .keeper)) w, c .loop-turn-test .left)
