@@ -15,13 +15,13 @@ use Rattle.keeper.specs.Totals.{total}
 use Rattle.keeper.specs.Stages.{uses, engaged}
 use Rattle.keeper.specs.Meaning.{serialIs, version}
 use Rattle.keeper.proofs.Totals.{total-at}
+use Rattle.keeper.proofs.Fronts.{front-set, front-at}
 use Rattle.counting.specs.declared.rows.Row.{Row}
 use Rattle.counting.specs.declared.rows.Row.the-variants.{Empty, Held}
 use Rattle.counting.specs.declared.state.Counting.{Counting}
 use Rattle.counting.specs.State.{State, Sized, Filled, Counted, view, onRow, usedBy, holds, empty, first, steady}
 use Rattle.counting.specs.Moves.{stageAt, rowAt, place, put, both, raised, lowered, count, openEnds, accepts, last-one, closeEnds, fresh}
 use Rattle.counting.specs.Model.{stateOf}
-use Rattle.counting.proofs.Firsts.{front-set, front-at}
 use Rattle.counting.proofs.Crowd.{crowd}
 use Rattle.counting.proofs.Good.{Good, changed}
 

@@ -23,6 +23,7 @@ use Rattle.keeper.specs.Refusals.{fault, unless}
 use Rattle.keeper.specs.Meaning.{Meaning, serialIs, version, stageOf, rootAt}
 use Rattle.keeper.specs.Effects.{openFault, publishFault, closeFault, stepFault, OpenSays, PublishSays, CloseSays, StepSays, StepDone, Begun, answer, stageAnswer, rootAnswer, rootOf}
 use Rattle.keeper.proofs.Faults.{in-range}
+use Rattle.keeper.proofs.Exact.{refused-state, refused-answer, done-state, done-answer}
 use Rattle.counting.specs.declared.rows.Row.{Row}
 use Rattle.counting.specs.declared.rows.Row.the-variants.{Empty, Held}
 use Rattle.counting.specs.declared.state.Counting.{Counting}
@@ -35,7 +36,7 @@ use Rattle.counting.specs.declared.label.Label.{Label}
 use Rattle.counting.specs.Labels.{labelOf, labelAnswer}
 use Rattle.counting.specs.Calls.{opens, openAnswer, publishes, publishAnswer, closes, closeAnswer, steps, stepAnswer}
 use Rattle.counting.proofs.Bridge.{good, stage-here, row-here}
-use Rattle.counting.proofs.Exact.{refused-state, refused-answer, done-state, done-answer}
+
 
 is-idle : (st : Stage) → idle st ≡ true → st ≡ Idle
 is-idle Idle e = refl

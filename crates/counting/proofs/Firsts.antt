@@ -1,4 +1,4 @@
--- The first element that passes a test; a front under a write.
+-- The first element that passes a test.
 use mathlib.Core.Path.{_≡_, refl, sym, ap, _∙_}
 use mathlib.Core.List.{List, [], _∷_}
 use mathlib.Core.Bool.{Bool, true, false, cond}
@@ -8,18 +8,6 @@ use native.Mathlib.Numerals.{add-one}
 use lib.ListN.{length, getD, set, take, drop}
 use Rattle.keeper.specs.Totals.{total}
 use Rattle.counting.specs.State.{first}
-
-pub front-set : {A : Type 0} (n : ℕ) (xs : List A) (i : ℕ) (y : A) → take n (set xs i y) ≡ set (take n xs) i y
-front-set zero xs i y = refl
-front-set (suc n) [] i y = refl
-front-set (suc n) (x ∷ xs) zero y = refl
-front-set (suc n) (x ∷ xs) (suc i) y = ap (λ l. x ∷ l) (front-set n xs i y)
-
-pub front-at : {A : Type 0} (n : ℕ) (xs : List A) (i : ℕ) (d : A) → i < n → getD (take n xs) i d ≡ getD xs i d
-front-at zero xs i d h = absurd (omega arith)
-front-at (suc n) [] i d h = refl
-front-at (suc n) (x ∷ xs) zero d h = refl
-front-at (suc n) (x ∷ xs) (suc i) d h = front-at n xs i d (omega arith)
 
 -- a loop that looks for the first, at a place that does not pass, and at one that does
 pub first-on : {A : Type 0} (t : A → Bool) (xs : List A) (i : ℕ) (d : A) → i < length xs → t (getD xs i d) ≡ false → first t (drop i xs) ≡ 1 + first t (drop (suc i) xs)

@@ -1,20 +1,14 @@
 -- Each acting call of the counting keeper, exactly: the state after it, and its answer, from the state before it.
 use Prim.Native.Nat.{ℕ}
-use Rattle.std.specs.declared.option.Option.{Option}
-use Rattle.std.specs.declared.option.Option.the-variants.{Some, None}
+use Rattle.std.specs.declared.option.Option.the-variants.{None}
 use Rattle.std.specs.declared.result.Result.{Result}
 use Rattle.keeper.specs.declared.stage.Stage.the-variants.{Opening, Offering, Closing}
 use Rattle.keeper.specs.declared.outcome.Outcome.{Outcome}
 use Rattle.keeper.specs.declared.fault.Fault.{Fault}
 use Rattle.keeper.specs.Stages.{serialOf}
-use Rattle.keeper.specs.Effects.{answer, openFault, publishFault, closeFault, stepFault}
+use Rattle.keeper.specs.Effects.{answer, settled, openFault, publishFault, closeFault, stepFault}
 use Rattle.counting.specs.State.{State}
 use Rattle.counting.specs.Moves.{meaningOf, stageAt, put, stepped, answered}
-
--- the state w after a call, unless it is refused: then nothing is altered
-abbrev pub settled : Option Fault → State → State → State
-settled None v w = w
-settled (Some f) v w = v
 
 abbrev pub opens : State → ℕ → State
 opens v p = settled (openFault (meaningOf v) p) v (put v p (Opening (v .current .serial) None))

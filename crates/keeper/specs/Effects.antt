@@ -39,6 +39,11 @@ abbrev pub answer : {A : Type 0} → Option Fault → A → Result A Fault
 answer None a = Ok a
 answer (Some f) a = Err f
 
+-- the state w after a call of a keeper, unless it is refused: then nothing is altered
+abbrev pub settled : {S : Type 0} → Option Fault → S → S → S
+settled None v w = w
+settled (Some f) v w = v
+
 -- the stage of a program
 abbrev pub stageAnswer : Meaning → ℕ → Result Stage Fault
 stageAnswer m p = answer (unless (ltb p (m .programs)) NoProgram None) (stageOf m p)
