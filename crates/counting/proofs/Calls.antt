@@ -22,7 +22,7 @@ use Rattle.keeper.specs.Stages.{uses, named, has, engaged, idle, opened, closab
 use Rattle.keeper.specs.Refusals.{fault, unless}
 use Rattle.keeper.specs.Meaning.{Meaning, serialIs, version, stageOf, rootAt}
 use Rattle.keeper.specs.Effects.{openFault, publishFault, closeFault, stepFault, OpenSays, PublishSays, CloseSays, StepSays, StepDone, Begun, answer, stageAnswer, rootAnswer, rootOf}
-use Rattle.keeper.proofs.Faults.{in-range}
+use Rattle.keeper.proofs.Faults.{in-range, open-meets, publish-meets, publish-last, publish-allowed, close-meets, step-meets}
 use Rattle.keeper.proofs.Exact.{refused-state, refused-answer, done-state, done-answer}
 use Rattle.counting.specs.declared.rows.Row.{Row}
 use Rattle.counting.specs.declared.rows.Row.the-variants.{Empty, Held}
@@ -58,33 +58,12 @@ module _ (k : Counting) (p : ℕ) (within : p < k .programs) where
   pub here : (st : Stage) → getD (k .stages) p Idle ≡ st → stageAt (stateOf k) p ≡ st
   here st e = stage-here k p within ∙ e
 
-  moved-by : (f : Stage → Bool) (b : Bool) → f (getD (k .stages) p Idle) ≡ b → f (stageAt (stateOf k) p) ≡ b
-  moved-by f b e = ap f (stage-here k p within) ∙ e
-
   -- a serial that a program uses is none after the current one
   pub not-later : (s : ℕ) → engaged (stageAt (stateOf k) p) ≡ Some s → s ≤ k .current .serial
   not-later s e = ⊎-elim
       (λ (late : k .current .serial < s). absurd (omega (arith, k .filled .2 s late, used-held (stateOf k) (good k) p s within e)))
       (λ (h : s ≤ k .current .serial). h)
       (cases-lt (k .current .serial) s)
-
-  -- which refusal a call meets, from the stage as the code reads it
-  pub open-meets : (b : Bool) → idle (getD (k .stages) p Idle) ≡ b → openFault (meaningOf (stateOf k)) p ≡ unless b StageForbids None
-  open-meets b e = in-range p (k .programs) _ within ∙ ap (λ x. unless x StageForbids None) (moved-by idle b e)
-
-  pub publish-meets : (b c : Bool) → opened (getD (k .stages) p Idle) ≡ b → not (eqb (k .current .serial) (k .last)) ≡ c → publishFault (meaningOf (stateOf k)) p ≡ unless b StageForbids (unless c LastSerial None)
-  publish-meets b c e f =
-      in-range p (k .programs) _ within ∙ ap (λ x. unless x StageForbids (unless (not (eqb (k .current .serial) (k .last))) LastSerial None)) (moved-by opened b e)
-      ∙ ap (λ x. unless b StageForbids (unless x LastSerial None)) f
-
-  pub publish-forbidden : opened (getD (k .stages) p Idle) ≡ false → publishFault (meaningOf (stateOf k)) p ≡ Some (fault StageForbids)
-  publish-forbidden e = publish-meets false (not (eqb (k .current .serial) (k .last))) e refl
-
-  pub close-meets : (b : Bool) → closable (getD (k .stages) p Idle) ≡ b → closeFault (meaningOf (stateOf k)) p ≡ unless b StageForbids None
-  close-meets b e = in-range p (k .programs) _ within ∙ ap (λ x. unless x StageForbids None) (moved-by closable b e)
-
-  pub step-meets : (b : Bool) → moving (getD (k .stages) p Idle) ≡ b → stepFault (meaningOf (stateOf k)) p ≡ unless b StageForbids None
-  step-meets b e = in-range p (k .programs) _ within ∙ ap (λ x. unless x StageForbids None) (moved-by moving b e)
 
   pub open-level : idle (getD (k .stages) p Idle) ≡ true → (s : ℕ) → 0 ≡ uses s (stageAt (stateOf k) p)
   open-level e s = sym (ap (uses s) (here Idle (is-idle _ e)))
@@ -110,51 +89,57 @@ module _ (k : Counting) (p : ℕ) (within : p < k .programs) where
 
 -- Each acting call, exactly, from what the code reads at p, the place of program q.
 module _ (k : Counting) (p q : ℕ) (at : p ≡ q) (within : p < k .programs) where
+  abbrev meant : Meaning
+  meant = meaningOf (stateOf k)
+
+  here-is : stageOf meant p ≡ getD (k .stages) p Idle
+  here-is = stage-here k p within
+
   pub open-refused : (f : Fault) → idle (getD (k .stages) p Idle) ≡ false → f ≡ fault StageForbids → (stateOf k ≡ opens (stateOf k) q) × (Err f ≡ openAnswer (stateOf k) q)
   open-refused f e is =
-      let met = open-meets k p within false e ∙ ap (λ x. Some x) (sym is) in
+      let met = open-meets meant p _ within here-is false e ∙ ap (λ x. Some x) (sym is) in
       subst (λ (x : ℕ). (stateOf k ≡ opens (stateOf k) x) × (Err f ≡ openAnswer (stateOf k) x)) at (refused-state _ f _ _ met, refused-answer _ f tt met)
 
   pub open-done : (w : State) → idle (getD (k .stages) p Idle) ≡ true → w ≡ put (stateOf k) p (Opening (k .current .serial) None) → (w ≡ opens (stateOf k) q) × (Ok tt ≡ openAnswer (stateOf k) q)
   open-done w e is =
-      let met = open-meets k p within true e in
+      let met = open-meets meant p _ within here-is true e in
       subst (λ (x : ℕ). (w ≡ opens (stateOf k) x) × (Ok tt ≡ openAnswer (stateOf k) x)) at (is ∙ done-state _ _ _ met, done-answer _ tt met)
 
   pub publish-refused : (r : ℕ) (f : Fault) → opened (getD (k .stages) p Idle) ≡ false → f ≡ fault StageForbids → (stateOf k ≡ publishes (stateOf k) q r) × (Err f ≡ publishAnswer (stateOf k) q)
   publish-refused r f e is =
-      let met = publish-forbidden k p within e ∙ ap (λ x. Some x) (sym is) in
+      let met = publish-meets meant p _ within here-is false e ∙ ap (λ x. Some x) (sym is) in
       subst (λ (x : ℕ). (stateOf k ≡ publishes (stateOf k) x r) × (Err f ≡ publishAnswer (stateOf k) x)) at (refused-state _ f _ _ met, refused-answer _ f tt met)
 
-  pub publish-last : (r s : ℕ) (f : Fault) → getD (k .stages) p Idle ≡ Open s → k .current .serial ≡ k .last → f ≡ fault LastSerial → (stateOf k ≡ publishes (stateOf k) q r) × (Err f ≡ publishAnswer (stateOf k) q)
-  publish-last r s f e full is =
-      let met = publish-meets k p within true false (ap opened e) (ap not (eq-eqb _ _ full)) ∙ ap (λ x. Some x) (sym is) in
+  pub publish-full : (r s : ℕ) (f : Fault) → getD (k .stages) p Idle ≡ Open s → k .current .serial ≡ k .last → f ≡ fault LastSerial → (stateOf k ≡ publishes (stateOf k) q r) × (Err f ≡ publishAnswer (stateOf k) q)
+  publish-full r s f e full is =
+      let met = publish-last meant p _ within here-is (ap opened e) full ∙ ap (λ x. Some x) (sym is) in
       subst (λ (x : ℕ). (stateOf k ≡ publishes (stateOf k) x r) × (Err f ≡ publishAnswer (stateOf k) x)) at (refused-state _ f _ _ met, refused-answer _ f tt met)
 
   pub publish-done : (w : State) (r s : ℕ) → getD (k .stages) p Idle ≡ Open s → (k .current .serial ≡ k .last → ⊥) → w ≡ put (stateOf k) p (Offering r s) → (w ≡ publishes (stateOf k) q r) × (Ok tt ≡ publishAnswer (stateOf k) q)
   publish-done w r s e room is =
-      let met = publish-meets k p within true true (ap opened e) (ap not (ne-eqb _ _ room)) in
+      let met = publish-allowed meant p _ within here-is (ap opened e) room in
       let over : put (stateOf k) p (Offering r s) ≡ put (stateOf k) p (Offering r (serialOf (stageAt (stateOf k) p))) = ap (λ x. put (stateOf k) p (Offering r (serialOf x))) (sym (here k p within (Open s) e)) in
       subst (λ (x : ℕ). (w ≡ publishes (stateOf k) x r) × (Ok tt ≡ publishAnswer (stateOf k) x)) at (is ∙ over ∙ done-state _ _ _ met, done-answer _ tt met)
 
   pub close-refused : (f : Fault) → closable (getD (k .stages) p Idle) ≡ false → f ≡ fault StageForbids → (stateOf k ≡ closes (stateOf k) q) × (Err f ≡ closeAnswer (stateOf k) q)
   close-refused f e is =
-      let met = close-meets k p within false e ∙ ap (λ x. Some x) (sym is) in
+      let met = close-meets meant p _ within here-is false e ∙ ap (λ x. Some x) (sym is) in
       subst (λ (x : ℕ). (stateOf k ≡ closes (stateOf k) x) × (Err f ≡ closeAnswer (stateOf k) x)) at (refused-state _ f _ _ met, refused-answer _ f tt met)
 
   pub close-done : (w : State) (s : ℕ) → closable (getD (k .stages) p Idle) ≡ true → has (getD (k .stages) p Idle) ≡ Some s → w ≡ put (stateOf k) p (Closing s) → (w ≡ closes (stateOf k) q) × (Ok tt ≡ closeAnswer (stateOf k) q)
   close-done w s c e is =
-      let met = close-meets k p within true c in
+      let met = close-meets meant p _ within here-is true c in
       let of : put (stateOf k) p (Closing s) ≡ put (stateOf k) p (Closing (serialOf (stageAt (stateOf k) p))) = ap (λ x. put (stateOf k) p (Closing x)) (sym (ap serialOf (stage-here k p within) ∙ closes-has _ s e c)) in
       subst (λ (x : ℕ). (w ≡ closes (stateOf k) x) × (Ok tt ≡ closeAnswer (stateOf k) x)) at (is ∙ of ∙ done-state _ _ _ met, done-answer _ tt met)
 
   pub step-refused : (f : Fault) → moving (getD (k .stages) p Idle) ≡ false → f ≡ fault StageForbids → (stateOf k ≡ steps (stateOf k) q) × (Err f ≡ stepAnswer (stateOf k) q)
   step-refused f e is =
-      let met = step-meets k p within false e ∙ ap (λ x. Some x) (sym is) in
+      let met = step-meets meant p _ within here-is false e ∙ ap (λ x. Some x) (sym is) in
       subst (λ (x : ℕ). (stateOf k ≡ steps (stateOf k) x) × (Err f ≡ stepAnswer (stateOf k) x)) at (refused-state _ f _ _ met, refused-answer _ f _ met)
 
   pub step-done : (w : State) (o : Outcome) (st : Stage) → getD (k .stages) p Idle ≡ st → moving st ≡ true → w ≡ stepped (stateOf k) p st → o ≡ answered (stateOf k) st → (w ≡ steps (stateOf k) q) × (Ok o ≡ stepAnswer (stateOf k) q)
   step-done w o st e m is value =
-      let met = step-meets k p within true (ap moving e ∙ m) in
+      let met = step-meets meant p _ within here-is true (ap moving e ∙ m) in
       let stage = here k p within st e in
       subst (λ (x : ℕ). (w ≡ steps (stateOf k) x) × (Ok o ≡ stepAnswer (stateOf k) x)) at
       (is ∙ ap (stepped (stateOf k) p) (sym stage) ∙ done-state _ _ _ met, ap (λ x. Ok x) (value ∙ ap (answered (stateOf k)) (sym stage)) ∙ done-answer _ _ met)

@@ -6,7 +6,7 @@ use Rattle.std.proofs.shelf.Tests.{lt-ltb}
 use Rattle.keeper.specs.Stages.{has, engaged}
 use Rattle.counting.specs.Model.{stateOf}
 use Rattle.counting.proofs.Bridge.{stage-here}
-use Rattle.counting.proofs.Calls.{publish-refused, publish-last, publish-done, used-level, not-later}
+use Rattle.counting.proofs.Calls.{publish-refused, publish-full, publish-done, used-level, not-later}
 use Rattle.counting.proofs.state.Counting.begin_publish.Needs as need
 
 pub returns-in-Break-over : need.returns-in-Break-over
@@ -20,7 +20,7 @@ returns-in-Break-over c =
 pub returns-then-self : need.returns-then-self
 returns-then-self c =
     let seat = c .in-Continue-p .ensures tt in
-    let done = publish-last (c .args .self .now) _ _ (seat .0) (omega (arith, seat)) (c .args .root) (c .in-Continue-over .over) _ (c .in-Continue-over .ensures tt) (c .if-self .taken) (c .refused .ensures) in
+    let done = publish-full (c .args .self .now) _ _ (seat .0) (omega (arith, seat)) (c .args .root) (c .in-Continue-over .over) _ (c .in-Continue-over .ensures tt) (c .if-self .taken) (c .refused .ensures) in
     record { after = done .0; value = done .1 }
 
 pub set-stage-requires : need.set-stage-requires
