@@ -37,7 +37,6 @@ use Rattle.counting.specs.Labels.{labelOf, labelAnswer}
 use Rattle.counting.specs.Calls.{opens, openAnswer, publishes, publishAnswer, closes, closeAnswer, steps, stepAnswer}
 use Rattle.counting.proofs.Bridge.{good, stage-here, row-here}
 
-
 is-idle : (st : Stage) → idle st ≡ true → st ≡ Idle
 is-idle Idle e = refl
 is-idle (Opening since bound) e = absurd (false≢true e)

@@ -15,6 +15,10 @@ use Rattle.keeper.specs.declared.fault.Refusal.the-variants.{Limits}
 use Rattle.keeper.specs.Refusals.{fault, limits}
 use Rattle.keeper.specs.Meaning.{Meaning}
 use Rattle.keeper.specs.Effects.{OpenSays, PublishSays, CloseSays, StepSays, stageAnswer, rootAnswer}
+use Rattle.announcement_theory.specs.declared.position.Label.{Label as AnnouncementLabel}
+use Rattle.announcement_theory.specs.declared.position.Position.{Position}
+use Rattle.announcement_theory.specs.State as announced
+use Rattle.announcement_theory.specs.Means as announcement
 use Rattle.counting.specs.declared.label.Label.{Label as CountingLabel}
 use Rattle.counting.specs.Labels.{labelOf}
 use Rattle.counting.specs.State.{State}
@@ -25,7 +29,7 @@ use Rattle.schedule.specs.declared.call.Call.the-variants as call
 use Rattle.schedule.specs.declared.call.Kind.{Kind}
 use Rattle.schedule.specs.declared.call.Kind.the-variants as kind
 use Rattle.desk.specs.declared.label.Label.{Label}
-use Rattle.desk.specs.declared.label.Label.the-variants.{Counting}
+use Rattle.desk.specs.declared.label.Label.the-variants.{Announcement, Counting}
 use Rattle.desk.specs.declared.answer.Answer.{Answer}
 use Rattle.desk.specs.declared.answer.Answer.the-variants.{Made, Begun, Stepped, Root, Stage as Staged, Current, Declared, Show, Refused, Unreadable}
 
@@ -36,6 +40,14 @@ counted (Some l) = Some (Counting l)
 
 abbrev pub countingLabel : Stage → Option Label
 countingLabel st = counted (labelOf st)
+
+-- the label of a program of the announcement keeper, by its position
+abbrev pub labelled : Option AnnouncementLabel → Option Label
+labelled None = None
+labelled (Some l) = Some (Announcement l)
+
+abbrev pub announcementLabel : Position → Option Label
+announcementLabel at = labelled (announcement.labelOf at)
 
 -- a step's answer, with the label at which it was taken; a program with steps left has one
 abbrev pub stepped : Option Label → Outcome → Answer → Type 0
@@ -82,16 +94,21 @@ told Unreadable = Ok Unreadable
 abbrev pub Performs : (ℕ → Option Label) → Meaning → Call → Meaning → Answer → Type 0
 Performs labels m c n a = PerformsOrRefuses labels m c n (told a)
 
--- a keeper as the desk sees it: its meaning, and the label at which each program stands
+-- a keeper as the desk sees it: its kind, its meaning, and the label at which each program stands
 pub record Standing : Type 0 where
+  pub kind : Kind
   pub meaning : Meaning
   pub labels : ℕ → Option Label
 
+abbrev pub announcementStanding : announced.State → Standing
+announcementStanding s = record { kind = kind.Announcement; meaning = announcement.meaningOf s; labels = λ p. announcementLabel (announced.positionAt s p) }
+
 abbrev pub countingStanding : State → Standing
-countingStanding v = record { meaning = meaningOf v; labels = λ p. countingLabel (stageAt v p) }
+countingStanding v = record { kind = kind.Counting; meaning = meaningOf v; labels = λ p. countingLabel (stageAt v p) }
 
 -- a new keeper of a kind
 abbrev pub newKeeper : Kind → ℕ → ℕ → Standing
+newKeeper kind.Announcement p l = announcementStanding (announced.fresh p l)
 newKeeper kind.Counting p l = countingStanding (fresh p l)
 
 -- a making leads from d to e and is answered a: within the limits a new keeper stands there, else what stood there stays
@@ -102,7 +119,7 @@ Makes kind p l d e a = cond (limits p l) ((a ≡ Made) × (e ≡ Some (newKeeper
 abbrev pub Goes : Option Standing → Call → Option Standing → Answer → Type 0
 Goes None c e a = (e ≡ None) × (a ≡ Unreadable)
 Goes (Some s) c None a = ⊥
-Goes (Some s) c (Some t) a = Performs (s .labels) (s .meaning) c (t .meaning) a
+Goes (Some s) c (Some t) a = (t .kind ≡ s .kind) × Performs (s .labels) (s .meaning) c (t .meaning) a
 
 -- the call leads from d to e and is answered a
 abbrev pub Answers : Option Standing → Call → Option Standing → Answer → Type 0

@@ -2,7 +2,12 @@ ghost use Rattle.desk.specs.Performs.{Answers, AnswersLine, Goes, Makes};
 ghost use Rattle.desk.specs.Standing.{standing};
 use crate::answer::Answer;
 use crate::calls::perform;
+use crate::screen::AnnouncingScreen;
 use crate::screen::CountingScreen;
+use announcement::Announcing;
+use announcement::AnnouncingDisplay;
+use announcement::AnnouncingEnquiry;
+use announcement::AnnouncingKeeper;
 use counting::Counting;
 use counting::CountingDisplay;
 use counting::CountingEnquiry;
@@ -16,6 +21,7 @@ use std::fmt;
 #[derive(Drop)]
 pub enum Desk {
     Nothing,
+    Announcing(Announcing),
     Counting(Counting),
 }
 
@@ -24,12 +30,15 @@ impl Desk {
     fn make(self, kind: Kind, programs: u32, last: u32) -> (Desk, Answer)
         ensures { λ r. ⌜ Makes kind programs last (standing self) (standing (r .0)) (r .1) ⌝ }
     {
-        let made = match kind {
-            Kind::Counting => Counting::new(programs, last),
-        };
-        match made {
-            Ok(keeper) => (Desk::Counting(keeper), Answer::Made),
-            Err(fault) => (self, Answer::Refused(fault)),
+        match kind {
+            Kind::Announcement => match Announcing::new(programs, last) {
+                Ok(keeper) => (Desk::Announcing(keeper), Answer::Made),
+                Err(fault) => (self, Answer::Refused(fault)),
+            },
+            Kind::Counting => match Counting::new(programs, last) {
+                Ok(keeper) => (Desk::Counting(keeper), Answer::Made),
+                Err(fault) => (self, Answer::Refused(fault)),
+            },
         }
     }
 
@@ -39,6 +48,10 @@ impl Desk {
     {
         match self {
             Desk::Nothing => (Desk::Nothing, Answer::Unreadable),
+            Desk::Announcing(mut keeper) => {
+                let answer = perform(&mut keeper, call);
+                (Desk::Announcing(keeper), answer)
+            }
             Desk::Counting(mut keeper) => {
                 let answer = perform(&mut keeper, call);
                 (Desk::Counting(keeper), answer)
@@ -76,6 +89,7 @@ pub impl fmt::Display for Desk as DeskDisplay {
     fn fmt<W: fmt::Write>(&self, f: &mut fmt::Formatter<W>) -> fmt::Result {
         match self {
             Desk::Nothing => Ok(()),
+            Desk::Announcing(keeper) => write!(f, "{keeper}"),
             Desk::Counting(keeper) => write!(f, "{keeper}"),
         }
     }

@@ -24,6 +24,7 @@ pub use label::Label;
 pub use label::LabelDebug;
 pub use label::LabelDisplay;
 pub use label::LabelPartialEq;
+pub use screen::AnnouncingScreen;
 pub use screen::CountingScreen;
 pub use screen::Screen;
 pub use tally::Tally;

@@ -5,11 +5,16 @@ ghost use Rattle.std.specs.declared.option.Option.{Option};
 ghost use Rattle.std.specs.Options.{isSome};
 ghost use Rattle.keeper.specs.Stages.{moving};
 ghost use Rattle.keeper.specs.Meaning.{stageOf};
+ghost use Rattle.announcement_theory.specs.State.{positionAt};
+ghost use Rattle.announcement.specs.Model.{stateIn};
 ghost use Rattle.counting.specs.Moves.{stageAt};
 ghost use Rattle.counting.specs.Model.{stateOf};
 ghost use Rattle.desk.specs.declared.label.Label.{Label};
-ghost use Rattle.desk.specs.Performs.{countingLabel};
+ghost use Rattle.desk.specs.Performs.{announcementLabel, countingLabel};
 use crate::label::Label;
+use announcement::Announcing;
+use announcement::AnnouncingEnquiry;
+use announcement::AnnouncingKeeper;
 use counting::Counting;
 use counting::CountingEnquiry;
 use counting::CountingKeeper;
@@ -26,6 +31,18 @@ pub trait Screen: Keeper {
     // The label at which a program stands, none where it is idle, open or offered, or is no program.
     fn stands_at(&self, program: u32) -> Option<Label>
         ensures { λ r. ⌜ r ≡ labels (now (self .entry)) program ⌝ };
+}
+
+pub impl Screen for Announcing as AnnouncingScreen {
+    ghost labels = { λ k p. announcementLabel (positionAt (stateIn k) p) };
+
+    fn stands_at(&self, program: u32) -> Option<Label> {
+        match self.label(program) {
+            Ok(Some(label)) => Some(Label::Announcement(label)),
+            Ok(None) => None,
+            Err(_) => None,
+        }
+    }
 }
 
 pub impl Screen for Counting as CountingScreen {

@@ -14,7 +14,7 @@ use Rattle.keeper.specs.declared.fault.Refusal.the-variants.{NoProgram, WrongM
 use Rattle.keeper.specs.declared.fault.Layer.{Layer}
 use Rattle.keeper.specs.declared.fault.Layer.the-variants.{Cells, Keeper, Exchange}
 use Rattle.keeper.specs.declared.fault.Fault.{Fault}
-use Rattle.keeper.specs.Stages.{has, idle, opened, closable}
+use Rattle.keeper.specs.Stages.{has, idle, opened, closable, moving}
 
 -- the number of each refusal
 abbrev pub numberOf : Refusal → ℕ
@@ -63,6 +63,10 @@ MayPublish st (Err f) = (opened st ≡ false) × (f ≡ fault StageForbids)
 abbrev pub MayClose : Stage → Result ℕ Fault → Type 0
 MayClose st (Ok s) = (closable st ≡ true) × (has st ≡ Some s)
 MayClose st (Err f) = (closable st ≡ false) × (f ≡ fault StageForbids)
+
+abbrev pub MayStep : Stage → Result (Unit {0}) Fault → Type 0
+MayStep st (Ok a) = moving st ≡ true
+MayStep st (Err f) = (moving st ≡ false) × (f ≡ fault StageForbids)
 
 -- the place of program p among n
 abbrev pub Seated : ℕ → ℕ → Result ℕ Fault → Type 0

@@ -1,6 +1,6 @@
 ghost use mathlib.Core.Path.{_≡_};
 ghost use Rattle.keeper.specs.Stages.{has, idle};
-ghost use Rattle.keeper.specs.Refusals.{MayOpen, MayPublish, MayClose};
+ghost use Rattle.keeper.specs.Refusals.{MayOpen, MayPublish, MayClose, MayStep};
 use crate::fault::Fault;
 use crate::fault::Refusal;
 use crate::fault::refused;
@@ -68,6 +68,16 @@ impl Stage {
     {
         match self {
             Stage::Open(serial) | Stage::Offered(serial) => Ok(serial),
+            _ => Err(refused(Refusal::StageForbids)),
+        }
+    }
+
+    // Refuses where the stage forbids a step.
+    pub fn may_step(self) -> Result<(), Fault>
+        ensures { λ r. ⌜ MayStep self r ⌝ }
+    {
+        match self {
+            Stage::Opening { .. } | Stage::Offering { .. } | Stage::Closing(_) => Ok(()),
             _ => Err(refused(Refusal::StageForbids)),
         }
     }

@@ -13,7 +13,7 @@ use Rattle.std.specs.declared.option.Option.the-variants.{None, Some}
 use Rattle.schedule.specs.declared.call.Call.{Call}
 use Rattle.schedule.specs.declared.call.Call.the-variants as call
 use Rattle.schedule.specs.declared.call.Kind.{Kind}
-use Rattle.schedule.specs.declared.call.Kind.the-variants.{Counting}
+use Rattle.schedule.specs.declared.call.Kind.the-variants.{Announcement, Counting}
 use Rattle.schedule.specs.declared.line.Word.{Word}
 use Rattle.schedule.specs.declared.line.Word.the-variants as word
 use Rattle.schedule.specs.Lines.{Fit, Reads, named, written}
@@ -38,6 +38,7 @@ after-wide-lead text f c Goal e k = after-lead 32 4294967295 text f c Goal (omeg
 
 -- how a call is written is read as the call
 back : (c : Call) → Fit c → callOf (written c) ≡ Some c
+back (call.Keeper Announcement p l) h = rw (lead-wide p (decimal l) (h .0), wide-back l (h .1))
 back (call.Keeper Counting p l) h = rw (lead-wide p (decimal l) (h .0), wide-back l (h .1))
 back (call.Open p) h = rw (wide-back p h)
 back (call.Publish p r) h = rw (lead-wide p (decimal r) (h .0), wide-back r (h .1))
@@ -77,7 +78,7 @@ word-form text w =
     (picks spelled text word.Declared w _ (picks spelled text word.Show w None (λ e. none-some _ _ e))))))))))
 
 kind-form : (text : List ℕ) (k : Kind) → kindOf text ≡ Some k → text ≡ named k
-kind-form text k = picks named text Counting k None (λ e. none-some _ _ e)
+kind-form text k = picks named text Announcement k _ (picks named text Counting k None (λ e. none-some _ _ e))
 
 -- a call with one number
 one-form : (make : ℕ → Call) (front rest : List ℕ) (c : Call) → ((n : ℕ) → written (make n) ≡ front ++ decimal n) → andThen (wide rest) (λ n. Some (make n)) ≡ Some c → front ++ rest ≡ written c

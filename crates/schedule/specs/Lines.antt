@@ -9,7 +9,7 @@ use Rattle.std.specs.declared.option.Option.the-variants.{None, Some}
 use Rattle.schedule.specs.declared.call.Call.{Call}
 use Rattle.schedule.specs.declared.call.Call.the-variants.{Keeper, Open, Publish, Step, Close, Root, Stage, Current, Declared, Show}
 use Rattle.schedule.specs.declared.call.Kind.{Kind}
-use Rattle.schedule.specs.declared.call.Kind.the-variants.{Counting}
+use Rattle.schedule.specs.declared.call.Kind.the-variants.{Announcement, Counting}
 
 -- a text is read as a number, at most `most`, just where it is the number's decimal form
 abbrev pub Numbered : ℕ → List ℕ → Option ℕ → Type 0
@@ -17,6 +17,7 @@ Numbered most text (Some n) = (text ≡ decimal n) × (n ≤ most)
 Numbered most text None = (n : ℕ) → n ≤ most → text ≡ decimal n → ⊥
 
 abbrev pub named : Kind → List ℕ
+named Announcement = codes "announcement"
 named Counting = codes "counting"
 
 -- the line of a call: its word, then for each operand a blank and the operand

@@ -9,7 +9,7 @@ use Rattle.std.specs.declared.option.Option.the-variants.{None, Some}
 use Rattle.schedule.specs.declared.call.Call.{Call}
 use Rattle.schedule.specs.declared.call.Call.the-variants as call
 use Rattle.schedule.specs.declared.call.Kind.{Kind}
-use Rattle.schedule.specs.declared.call.Kind.the-variants.{Counting}
+use Rattle.schedule.specs.declared.call.Kind.the-variants.{Announcement, Counting}
 use Rattle.schedule.specs.declared.line.Word.{Word}
 use Rattle.schedule.specs.declared.line.Word.the-variants as word
 use Rattle.schedule.specs.Pieces.{andThen, cutAt, leadIn, numberIn}
@@ -27,7 +27,7 @@ wordOf text = cond (sameBytes text (codes "keeper")) (Some word.Keeper)
     (cond (sameBytes text (codes "show")) (Some word.Show) None)))))))))
 
 abbrev pub kindOf : List ℕ → Option Kind
-kindOf text = cond (sameBytes text (codes "counting")) (Some Counting) None
+kindOf text = cond (sameBytes text (codes "announcement")) (Some Announcement) (cond (sameBytes text (codes "counting")) (Some Counting) None)
 
 -- a number of 32 bits
 abbrev pub wide : List ℕ → Option ℕ

@@ -1,6 +1,7 @@
 // Which keeper a line asks for.
 #[derive(Clone, Copy, PartialEq, Eq, Debug)]
 pub enum Kind {
+    Announcement,
     Counting,
 }
 

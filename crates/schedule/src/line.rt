@@ -56,7 +56,9 @@ fn word_in(text: &[u8]) -> Option<Word>
 fn kind_in(text: &[u8]) -> Option<Kind>
     ensures { λ r. ⌜ r ≡ kindOf (now (text .entry)) ⌝ }
 {
-    if same(text, b"counting") {
+    if same(text, b"announcement") {
+        Some(Kind::Announcement)
+    } else if same(text, b"counting") {
         Some(Kind::Counting)
     } else {
         None
@@ -173,7 +175,7 @@ mod tests {
         check_eq(read(b""), None)?;
         check_eq(read(b"opens 0"), None)?;
         check_eq(read(b"Open 0"), None)?;
-        check_eq(read(b"keeper announcement 2 100"), None)?;
+        check_eq(read(b"keeper announcements 2 100"), None)?;
         check_eq(read(b"open"), None)?;
         check_eq(read(b"show 0"), None)?;
         check_eq(read(b"open 0 0"), None)?;

@@ -1,0 +1,5 @@
+pub mod Boards
+pub mod Steps
+pub mod Pace
+pub mod Model
+pub mod Calls
