@@ -18,18 +18,27 @@ fn main(rt: LibcRuntime) -> Result<(), AnyError> {
     rt.report(run(&rt))
 }
 
-// From the file that the one argument names, or from standard input.
+// From each file that an argument names, one after the other, `-` being standard input; with no argument from standard input.
 fn run(rt: &LibcRuntime) -> Result<(), AnyError> {
     let mut args = env::args(rt)?;
     let _name = args.next();
-    match args.next() {
-        Some(path) => {
-            let file = fs::open(rt, path.as_str())?;
-            replay(rt, BufReader::new(file))?;
-        }
-        None => replay(rt, BufReader::new(rt.stdin()))?,
+    let mut named = false;
+    for path in args {
+        named = true;
+        play(rt, path.as_str())?;
+    }
+    if !named {
+        play(rt, "-")?;
     }
     Ok(())
+}
+
+fn play(rt: &LibcRuntime, path: &str) -> io::Result<()> {
+    if path == "-" {
+        return replay(rt, BufReader::new(rt.stdin()));
+    }
+    let file = fs::open(rt, path)?;
+    replay(rt, BufReader::new(file))
 }
 
 // Answers every line but empty ones and comments, one line in memory at a time.
