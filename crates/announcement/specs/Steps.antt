@@ -14,7 +14,8 @@ use Rattle.announcement_theory.specs.Next.{Stepped, advance, goTo, stepAt, step
 abbrev pub Took : Stepped → State → Outcome → Type 0
 Took t w o = (w ≡ t .after) × (o ≡ t .outcome)
 
--- a step of an open; nothing is said of other positions
+-- For each part of the step function: what it says of the labels that it is for. Of other positions it says nothing.
+-- a step of an open
 abbrev pub OpenTook : State → ℕ → Position → State → Outcome → Type 0
 OpenTook s p Idle w o = Unit {0}
 OpenTook s p (O1 since u) w o = Took (stepAt s p (O1 since u)) w o
@@ -35,6 +36,28 @@ OpenTook s p (C4 v x) w o = Unit {0}
 OpenTook s p (C5 v) w o = Unit {0}
 OpenTook s p (C6 v x) w o = Unit {0}
 OpenTook s p (C7 v) w o = Unit {0}
+
+-- a step of an open whose version was replaced meanwhile
+abbrev pub RetryTook : State → ℕ → Position → State → Outcome → Type 0
+RetryTook s p Idle w o = Unit {0}
+RetryTook s p (O1 since u) w o = Unit {0}
+RetryTook s p (O2 since u) w o = Unit {0}
+RetryTook s p (O3 since u) w o = Unit {0}
+RetryTook s p (O4 since u round) w o = Took (stepAt s p (O4 since u round)) w o
+RetryTook s p (O5 since u v round) w o = Took (stepAt s p (O5 since u v round)) w o
+RetryTook s p (O6 since u round) w o = Took (stepAt s p (O6 since u round)) w o
+RetryTook s p (Open v) w o = Unit {0}
+RetryTook s p (F1 r over i) w o = Unit {0}
+RetryTook s p (F2 r over i x) w o = Unit {0}
+RetryTook s p (F3 r over i) w o = Unit {0}
+RetryTook s p (Offered v) w o = Unit {0}
+RetryTook s p (C1 v) w o = Unit {0}
+RetryTook s p (C2 v) w o = Unit {0}
+RetryTook s p (C3 v) w o = Unit {0}
+RetryTook s p (C4 v x) w o = Unit {0}
+RetryTook s p (C5 v) w o = Unit {0}
+RetryTook s p (C6 v x) w o = Unit {0}
+RetryTook s p (C7 v) w o = Unit {0}
 
 -- a step of an offer
 abbrev pub OfferTook : State → ℕ → Position → State → Outcome → Type 0
@@ -79,6 +102,28 @@ CloseTook s p (C4 v x) w o = Took (stepAt s p (C4 v x)) w o
 CloseTook s p (C5 v) w o = Took (stepAt s p (C5 v)) w o
 CloseTook s p (C6 v x) w o = Took (stepAt s p (C6 v x)) w o
 CloseTook s p (C7 v) w o = Took (stepAt s p (C7 v)) w o
+
+-- a step of a close that looks at the slot of its version
+abbrev pub SlotTook : State → ℕ → Position → State → Outcome → Type 0
+SlotTook s p Idle w o = Unit {0}
+SlotTook s p (O1 since u) w o = Unit {0}
+SlotTook s p (O2 since u) w o = Unit {0}
+SlotTook s p (O3 since u) w o = Unit {0}
+SlotTook s p (O4 since u round) w o = Unit {0}
+SlotTook s p (O5 since u v round) w o = Unit {0}
+SlotTook s p (O6 since u round) w o = Unit {0}
+SlotTook s p (Open v) w o = Unit {0}
+SlotTook s p (F1 r over i) w o = Unit {0}
+SlotTook s p (F2 r over i x) w o = Unit {0}
+SlotTook s p (F3 r over i) w o = Unit {0}
+SlotTook s p (Offered v) w o = Unit {0}
+SlotTook s p (C1 v) w o = Unit {0}
+SlotTook s p (C2 v) w o = Unit {0}
+SlotTook s p (C3 v) w o = Took (stepAt s p (C3 v)) w o
+SlotTook s p (C4 v x) w o = Unit {0}
+SlotTook s p (C5 v) w o = Took (stepAt s p (C5 v)) w o
+SlotTook s p (C6 v x) w o = Unit {0}
+SlotTook s p (C7 v) w o = Took (stepAt s p (C7 v)) w o
 
 -- an offer over the current version is accepted: the version in slot i becomes current
 abbrev pub accepts : State → ℕ → Mark → ℕ → Stepped

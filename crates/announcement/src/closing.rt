@@ -3,9 +3,11 @@ ghost use Prim.Native.Nat.{_+_};
 ghost use Rattle.keeper.specs.declared.outcome.Outcome.the-variants.{HandedOut, Nothing};
 ghost use Rattle.announcement_theory.specs.declared.slot.Slot.the-variants as slot;
 ghost use Rattle.announcement_theory.specs.declared.position.Position.the-variants.{C4, C6, Idle};
+ghost use Rattle.announcement_theory.specs.declared.slot.Status.the-variants.{Frozen, Pending};
+ghost use Rattle.announcement_theory.specs.Tests.{restated};
 ghost use Rattle.announcement_theory.specs.Next.{fill, goTo, goes, stepAt, stepped};
 ghost use Rattle.announcement.specs.Boards.{stateOf};
-ghost use Rattle.announcement.specs.Steps.{CloseTook, Took, closedSlot};
+ghost use Rattle.announcement.specs.Steps.{CloseTook, SlotTook, Took, closedSlot};
 use crate::board::Board;
 use crate::marks::frozen;
 use crate::marks::is_asking;
@@ -38,14 +40,6 @@ impl Board {
         self.ends(p, Position::Idle, Outcome::Nothing)
     }
 
-    // A slot is written, and the close goes on at another label.
-    fn goes_writing(&mut self, p: u32, j: u32, slot: Slot, position: Position) -> Outcome
-        ensures { λ r. ⌜ Took (goes (fill (stateOf (now (self .entry))) j slot) p position) (stateOf (now (self .exit))) r ⌝ }
-    {
-        self.fill(j, slot);
-        self.goes(p, position)
-    }
-
     // The version is emptied out of its slot and handed out.
     fn hands_out(&mut self, p: u32, version: Mark) -> Outcome
         ensures { λ r. ⌜ Took (stepped (goTo (fill (stateOf (now (self .entry))) (version .slot) slot.Empty) p Idle) (HandedOut (version .serial))) (stateOf (now (self .exit))) r ⌝ }
@@ -54,15 +48,30 @@ impl Board {
         self.ends(p, Position::Idle, Outcome::HandedOut(version.serial))
     }
 
-    // A step of a close, by its label and the slot of its version together.
+    // A step of a close.
     pub(crate) fn close_step(&mut self, p: u32, position: Position) -> Outcome
         ensures { λ r. ⌜ CloseTook (stateOf (now (self .entry))) p position (stateOf (now (self .exit))) r ⌝ }
     {
+        match position {
+            Position::C1(v) => self.goes_announcing(p, Position::C2(v), Announcement::Empty),
+            Position::C2(v) if is_same(self.current, v) => self.leaves(p),
+            Position::C2(v) => self.goes(p, Position::C3(v)),
+            Position::C3(_) | Position::C5(_) | Position::C7(_) => self.slot_step(p, position),
+            Position::C4 { version, program } => self.bind_step(p, version, program),
+            Position::C6 { version, program } => self.scan_step(p, version, program),
+            Position::Idle | Position::Open(_) | Position::Offered(_) => Outcome::GoesOn,
+            Position::O1 { .. } | Position::O2 { .. } | Position::O3 { .. } => Outcome::GoesOn,
+            Position::O4 { .. } | Position::O5 { .. } | Position::O6 { .. } => Outcome::GoesOn,
+            Position::F1 { .. } | Position::F2 { .. } | Position::F3 { .. } => Outcome::GoesOn,
+        }
+    }
+
+    // A step of a close that looks at the slot of its version: by its label and the slot's status together.
+    fn slot_step(&mut self, p: u32, position: Position) -> Outcome
+        ensures { λ r. ⌜ SlotTook (stateOf (now (self .entry))) p position (stateOf (now (self .exit))) r ⌝ }
+    {
         let slot = self.slot_at(closed_slot(position));
         match (position, slot) {
-            (Position::C1(v), _) => self.goes_announcing(p, Position::C2(v), Announcement::Empty),
-            (Position::C2(v), _) if is_same(self.current, v) => self.leaves(p),
-            (Position::C2(v), _) => self.goes(p, Position::C3(v)),
             (
                 Position::C3(v),
                 Slot::Filled {
@@ -70,21 +79,7 @@ impl Board {
                     root,
                     status: Status::Usable,
                 },
-            ) if serial == v.serial => {
-                self.goes_writing(
-                    p,
-                    v.slot,
-                    Slot::Filled {
-                        serial,
-                        root,
-                        status: Status::Pending,
-                    },
-                    Position::C4 {
-                        version: v,
-                        program: 0,
-                    },
-                )
-            }
+            ) if serial == v.serial => self.pends(p, v, root),
             (
                 Position::C3(v),
                 Slot::Filled {
@@ -92,27 +87,9 @@ impl Board {
                     status: Status::Frozen,
                     ..
                 },
-            ) if serial == v.serial => {
-                self.goes(
-                    p,
-                    Position::C6 {
-                        version: v,
-                        program: 0,
-                    },
-                )
-            }
+            ) if serial == v.serial => self.scans(p, v),
             (Position::C3(_), _) => self.leaves(p),
-            (Position::C4 { version, program }, _) => self.bind_step(p, version, program),
-            (Position::C5(v), _) => self.goes_writing(
-                p,
-                v.slot,
-                frozen(slot),
-                Position::C6 {
-                    version: v,
-                    program: 0,
-                },
-            ),
-            (Position::C6 { version, program }, _) => self.scan_step(p, version, program),
+            (Position::C5(v), _) => self.freezes(p, v, slot),
             (
                 Position::C7(v),
                 Slot::Filled {
@@ -126,7 +103,52 @@ impl Board {
             (Position::O1 { .. } | Position::O2 { .. } | Position::O3 { .. }, _) => Outcome::GoesOn,
             (Position::O4 { .. } | Position::O5 { .. } | Position::O6 { .. }, _) => Outcome::GoesOn,
             (Position::F1 { .. } | Position::F2 { .. } | Position::F3 { .. }, _) => Outcome::GoesOn,
+            (Position::C1(_) | Position::C2(_), _) => Outcome::GoesOn,
+            (Position::C4 { .. } | Position::C6 { .. }, _) => Outcome::GoesOn,
         }
+    }
+
+    // A usable slot becomes pending, and programs that announced its version are helped.
+    fn pends(&mut self, p: u32, v: Mark, root: u32) -> Outcome
+        ensures { λ r. ⌜ Took (goes (fill (stateOf (now (self .entry))) (v .slot) (slot.Filled (v .serial) root Pending)) p (C4 v 0)) (stateOf (now (self .exit))) r ⌝ }
+    {
+        let serial = v.serial;
+        self.fill(
+            v.slot,
+            Slot::Filled {
+                serial,
+                root,
+                status: Status::Pending,
+            },
+        );
+        self.goes(
+            p,
+            Position::C4 {
+                version: v,
+                program: 0,
+            },
+        )
+    }
+
+    // Programs are looked for that have the version.
+    fn scans(&mut self, p: u32, v: Mark) -> Outcome
+        ensures { λ r. ⌜ Took (goes (stateOf (now (self .entry))) p (C6 v 0)) (stateOf (now (self .exit))) r ⌝ }
+    {
+        self.goes(
+            p,
+            Position::C6 {
+                version: v,
+                program: 0,
+            },
+        )
+    }
+
+    // The slot is frozen, and programs are looked for that have its version.
+    fn freezes(&mut self, p: u32, v: Mark, held: Slot) -> Outcome
+        ensures { λ r. ⌜ Took (goes (fill (stateOf (now (self .entry))) (v .slot) (restated Frozen held)) p (C6 v 0)) (stateOf (now (self .exit))) r ⌝ }
+    {
+        self.fill(v.slot, frozen(held));
+        self.scans(p, v)
     }
 
     // C4: a program that asks for help with the version is bound to it.
