@@ -155,13 +155,12 @@ impl Board {
     fn bind_step(&mut self, p: u32, version: Mark, program: u32) -> Outcome
         ensures { λ r. ⌜ Took (stepAt (stateOf (now (self .entry))) p (C4 version program)) (stateOf (now (self .exit))) r ⌝ }
     {
-        let position = if program < self.programs.saturating_sub(1) {
-            Position::C4 {
+        let position = match program {
+            next if next < self.programs.saturating_sub(1) => Position::C4 {
                 version,
-                program: program + 1,
-            }
-        } else {
-            Position::C5(version)
+                program: next + 1,
+            },
+            _ => Position::C5(version),
         };
         if is_asking(version, self.seat_at(program).announced) {
             self.announce(program, Announcement::Plain(version));
@@ -176,16 +175,12 @@ impl Board {
         if is_bearing(version, self.seat_at(program).announced) {
             return self.leaves(p);
         }
-        if program < self.programs.saturating_sub(1) {
-            self.goes(
-                p,
-                Position::C6 {
-                    version,
-                    program: program + 1,
-                },
-            )
-        } else {
-            self.goes(p, Position::C7(version))
+        match program {
+            next if next < self.programs.saturating_sub(1) => {
+                let program = next + 1;
+                self.goes(p, Position::C6 { version, program })
+            }
+            _ => self.goes(p, Position::C7(version)),
         }
     }
 }

@@ -102,15 +102,14 @@ impl Board {
     fn after_help(&self, root: u32, over: Mark, slot: u32, program: u32) -> Position
         ensures { λ r. ⌜ r ≡ nextOr (now (self .entry) .programs) program (F2 root over slot (program + 1)) (F3 root over slot) ⌝ }
     {
-        if program < self.programs.saturating_sub(1) {
-            Position::F2 {
+        match program {
+            next if next < self.programs.saturating_sub(1) => Position::F2 {
                 root,
                 over,
                 slot,
-                program: program + 1,
-            }
-        } else {
-            Position::F3 { root, over, slot }
+                program: next + 1,
+            },
+            _ => Position::F3 { root, over, slot },
         }
     }
 
