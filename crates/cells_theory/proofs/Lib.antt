@@ -1,0 +1,10 @@
+pub mod Counting
+pub mod Chains
+pub mod Frames
+pub mod Counts
+pub mod Building
+pub mod Sweeping
+pub mod Reaching
+pub mod Looking
+pub mod Making
+pub mod Steps

@@ -1,0 +1,9 @@
+pub mod Memory
+pub mod LetGo
+pub mod Build
+pub mod Look
+pub mod Sweep
+pub mod Make
+pub mod Trees
+pub mod Sound
+pub mod Promises
