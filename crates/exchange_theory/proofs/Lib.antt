@@ -1,0 +1,11 @@
+pub mod Insides
+pub mod Accepted
+pub mod Meant
+pub mod Told
+pub mod Naming
+pub mod Held
+pub mod Changes
+pub mod Ends
+pub mod Invariant
+pub mod Sure
+pub mod Runs

@@ -1,0 +1,12 @@
+pub mod Inside
+pub mod World
+pub mod Table
+pub mod Order
+pub mod Keeping
+pub mod Reading
+pub mod Building
+pub mod Did
+pub mod Make
+pub mod Story
+pub mod History
+pub mod Promises
