@@ -1,5 +1,4 @@
 pub mod Worlds
 pub mod Desks
-pub mod Admission
 pub mod Making
 pub mod Calls

@@ -7,6 +7,7 @@ ghost use Rattle.keeper.specs.Stages.{idle};
 ghost use Rattle.keeper.specs.Refusals.{limits};
 ghost use Rattle.keeper.specs.Meaning.{stageOf};
 ghost use Rattle.exchange_theory.specs.Make.{idleBelow, newKeeper, newMemory, makeable, Makes};
+ghost use Rattle.exchange_theory.specs.Promises.{BeginsRun};
 ghost use Rattle.exchange.specs.Making.{faultAlone, Keeps};
 ghost use Rattle.exchange.specs.Worlds.{worldOf};
 use crate::exchange::Exchange;
@@ -102,7 +103,7 @@ fn new_desk(programs: u32, size: u32, heads: Heads) -> Desk
 impl<K: Keeper> Exchange<K> {
     // Makes an exchange over a new keeper, on the memory lent, whose cell 0 gets the leaf. Refused 4 where a number is outside its
     // limits or the keeper is not new, and then the keeper comes back.
-    pub fn make<T: Copy>(
+    fn prepare<T: Copy>(
         keeper: K,
         cells: &mut [Cell],
         leaves: &mut [T],
@@ -119,5 +120,20 @@ impl<K: Keeper> Exchange<K> {
         let heads = cells::make(cells, leaves, leaf);
         let desk = new_desk(keeper.programs(), size as u32, heads);
         Ok(Exchange { keeper, desk })
+    }
+
+    // An exchange over a new keeper and the memory lent, in which version 0 is the leaf given; a refused making gives the keeper back.
+    // The making begins a run, which keeps every promise.
+    pub fn make<T: Copy>(
+        keeper: K,
+        cells: &mut [Cell],
+        leaves: &mut [T],
+        leaf: T,
+    ) -> Result<Exchange<K>, Unmade<K>>
+        ensures makes { λ r. ⌜ Makes leaf (K·Enquiry .meaning keeper) (now (cells .entry)) (now (leaves .entry)) (λ x. worldOf (K·Enquiry .meaning) x (now (cells .exit)) (now (leaves .exit))) (now (cells .exit)) (now (leaves .exit)) (faultAlone r) ⌝ }
+        ensures keeps { λ r. ⌜ Keeps keeper r ⌝ }
+        ensures begins { λ r. ⌜ BeginsRun leaf (λ x. worldOf (K·Enquiry .meaning) x (now (cells .exit)) (now (leaves .exit))) (faultAlone r) ⌝ }
+    {
+        Exchange::prepare(keeper, cells, leaves, leaf)
     }
 }

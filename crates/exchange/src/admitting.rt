@@ -1,6 +1,5 @@
 ghost use mathlib.Core.Path.{_≡_};
-ghost use Rattle.exchange_theory.specs.Order.{sized};
-ghost use Rattle.exchange.specs.Admission.{Admits};
+ghost use Rattle.exchange_theory.specs.Order.{Admits, sized};
 ghost use Rattle.exchange.specs.Worlds.{worldOf};
 use crate::exchange::Exchange;
 use crate::faults::refused;

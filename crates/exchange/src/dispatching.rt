@@ -1,6 +1,7 @@
 ghost use mathlib.Core.Path.{_≡_};
 ghost use mathlib.Core.Bool.{true};
 ghost use Rattle.exchange_theory.specs.Did.{Did};
+ghost use Rattle.exchange_theory.specs.Promises.{GoesOn};
 ghost use Rattle.exchange.specs.Calls.{onPlaces};
 ghost use Rattle.exchange.specs.Worlds.{worldOf};
 use crate::exchange::Exchange;
@@ -73,5 +74,18 @@ impl<K: Keeper> Exchange<K> {
             },
             _ => self.dispatch_on_places(call, cells, leaves),
         }
+    }
+
+    // Makes a call that is given as a value. Whatever run led here, the run with this call and its answer added keeps every promise.
+    pub fn perform<T: Copy>(
+        &mut self,
+        call: Call<T>,
+        cells: &mut [Cell],
+        leaves: &mut [T],
+    ) -> Result<Answer<T>, Fault>
+        ensures did { λ r. ⌜ Did call r (worldOf (K·Enquiry .meaning) (now (self .entry)) (now (cells .entry)) (now (leaves .entry))) (worldOf (K·Enquiry .meaning) (now (self .exit)) (now (cells .exit)) (now (leaves .exit))) ⌝ }
+        ensures runs { λ r. ⌜ GoesOn call r (worldOf (K·Enquiry .meaning) (now (self .entry)) (now (cells .entry)) (now (leaves .entry))) (worldOf (K·Enquiry .meaning) (now (self .exit)) (now (cells .exit)) (now (leaves .exit))) ⌝ }
+    {
+        self.dispatch(call, cells, leaves)
     }
 }
