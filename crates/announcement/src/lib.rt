@@ -1,4 +1,5 @@
 // The announcement keeper: no lock is held, and each operation ends within a fixed number of its program's own steps.
+#![tactic(auto)]
 
 // The making, and what each call does to the state, exactly.
 mod calls;

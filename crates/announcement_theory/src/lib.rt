@@ -1,5 +1,6 @@
 // The theory of the announcement keeper: the plain parts that its state is made of. What the keeper does with them, and the proof
 // that it does it well, stand in specs and proofs.
+#![tactic(auto)]
 
 // What a program announces.
 mod announcement;

@@ -1,4 +1,5 @@
 // The plain state of the announcement keeper, and each step that a program takes on it.
+#![tactic(auto)]
 
 // Reading and writing the plain state.
 mod access;

@@ -1,5 +1,6 @@
 // The calls of the memory of cells, over lent slices of cells and leaves. Each is total on any memory, and its contract is exact.
 // Beside that, each promises that a sound memory stays sound.
+#![tactic(auto)]
 
 // Filling the first free cell.
 mod building;

@@ -1,4 +1,5 @@
 // Worked cases of the memory of cells, with both kinds of leaf.
+#![tactic(auto)]
 
 // Calls in a row, over any memory lent.
 #[cfg(test)]

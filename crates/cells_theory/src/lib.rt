@@ -1,4 +1,5 @@
 // The memory of cells: its types here; in specs/ what each call does, what a sound memory is and what is promised of it.
+#![tactic(auto)]
 
 // A cell with its fields, and the heads of the two chains.
 mod cell;

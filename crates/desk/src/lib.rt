@@ -1,4 +1,5 @@
 // What the calls of a schedule go to, and what they answer.
+#![tactic(auto)]
 
 // What a line is answered.
 mod answer;

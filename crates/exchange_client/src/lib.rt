@@ -1,4 +1,6 @@
 // A client of the exchange: a row of calls, one after the other.
+#![tactic(auto)]
+
 ghost use Rattle.std.specs.Prelude.{◌≡◌, ◌≤◌, List};
 ghost use Rattle.exchange_theory.specs.History.{Event, Reached};
 ghost use Rattle.exchange_theory.specs.Promises.{Promises};

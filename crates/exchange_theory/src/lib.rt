@@ -1,5 +1,6 @@
 // The exchange: the types of its calls and answers and its plain data here; in specs/ what each call does, what a run tells by calls and
 // answers alone, and what is promised of every run.
+#![tactic(auto)]
 
 // A call, its sources, and its answer.
 mod calls;

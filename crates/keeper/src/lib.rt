@@ -1,4 +1,5 @@
 // A keeper of versions: an interface whose meaning and laws every implementation shows.
+#![tactic(auto)]
 
 // Calls of many programs, one after the other, over any keeper.
 mod client;

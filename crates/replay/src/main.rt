@@ -1,4 +1,6 @@
 // Reads a schedule, one call a line, carries out each call and prints what it did.
+#![tactic(auto)]
+
 use desk::{Answer, Desk, Tally};
 use std::io::{BufRead, BufReader, BufWriter, Write};
 use std::{env, fs, io};

@@ -1,4 +1,5 @@
 // A schedule's lines: the calls that they ask for, and how they are read.
+#![tactic(auto)]
 
 // The calls that a line can ask for.
 mod call;

@@ -14,43 +14,43 @@ loop-turn-init g c = λ m w.
     let none : most - 0 ≡ most = omega arith in
     subst (λ (k : ℕ). Waiting m c.args.program [] k (g.K.Enquiry.meaning c.open.new.self)) (sym none) w
 
-pub returns-in-err-outcome : goal.returns-in-err-outcome
-returns-in-err-outcome g c =
+pub returns-in_err-outcome : goal.returns-in_err-outcome
+returns-in_err-outcome g c =
     let meaning = g.K.Enquiry.meaning in
     let laws = g.met.K.Enquiry.sound in
     let k = c.open.new.self in
-    let n = c.perform-turn.new.keeper in
+    let n = c.perform_turn.new.keeper in
     let w = turn_waiting (meaning c.args.keeper.now) (meaning k) c.args.program c.declared-most.result.opening c.loop-turn.turn (calls_in c.args.others.now)
-    (laws c.args.keeper.now) (laws k) c.in-ok-open.ensures (ap (λ d. d.opening) c.declared-most.ensures) c.loop-turn.invariant c.perform-turn.ensures in
-    absurd (never_refused _ _ (step_allowed _ _ _ _ _ (laws n) w) c.in-err-outcome.ensures.0)
+    (laws c.args.keeper.now) (laws k) c.in_ok-open.ensures (ap (λ d. d.opening) c.declared-most.ensures) c.loop-turn.invariant c.perform_turn.ensures in
+    absurd (never_refused _ _ (step_allowed _ _ _ _ _ (laws n) w) c.in_err-outcome.ensures.0)
 
 pub returns-in-Opened : goal.returns-in-Opened
 returns-in-Opened g c =
     let meaning = g.K.Enquiry.meaning in
     let laws = g.met.K.Enquiry.sound in
     let k = c.open.new.self in
-    let n = c.perform-turn.new.keeper in
+    let n = c.perform_turn.new.keeper in
     let o = c.step.new.self in
     let w = turn_waiting (meaning c.args.keeper.now) (meaning k) c.args.program c.declared-most.result.opening c.loop-turn.turn (calls_in c.args.others.now)
-    (laws c.args.keeper.now) (laws k) c.in-ok-open.ensures (ap (λ d. d.opening) c.declared-most.ensures) c.loop-turn.invariant c.perform-turn.ensures in
-    let says = subst (λ (x : Outcome). StepSays (meaning n) c.args.program (meaning o) (Ok x)) c.in-Opened.is c.in-ok-outcome.ensures in
-    ends_open _ _ _ _ _ (laws n) w (calls_in c.args.others.now) (meaning o) c.in-Opened.serial c.in-ok-root.root c.loop-turn.turn refl says (laws o) c.in-ok-root.ensures
-    (omega (arith, c.loop-turn-test.true, ap (λ d. d.opening) c.declared-most.ensures, ap (λ x. x.declared.opening) c.in-ok-open.ensures.1.after))
+    (laws c.args.keeper.now) (laws k) c.in_ok-open.ensures (ap (λ d. d.opening) c.declared-most.ensures) c.loop-turn.invariant c.perform_turn.ensures in
+    let says = subst (λ (x : Outcome). StepSays (meaning n) c.args.program (meaning o) (Ok x)) c.in-Opened.is c.in_ok-outcome.ensures in
+    ends_open _ _ _ _ _ (laws n) w (calls_in c.args.others.now) (meaning o) c.in-Opened.serial c.in_ok-root.root c.loop-turn.turn refl says (laws o) c.in_ok-root.ensures
+    (omega (arith, c.loop-turn-test.true, ap (λ d. d.opening) c.declared-most.ensures, ap (λ x. x.declared.opening) c.in_ok-open.ensures.1.after))
 
 pub loop-turn-preserved : goal.loop-turn-preserved
 loop-turn-preserved g c =
     λ m start.
     let meaning = g.K.Enquiry.meaning in
     let laws = g.met.K.Enquiry.sound in
-    let n = c.perform-turn.new.keeper in
+    let n = c.perform_turn.new.keeper in
     let o = c.step.new.self in
     let p = c.args.program in
     let others = calls_in c.args.others.now in
     let turn = c.loop-turn.turn in
     let most = c.declared-most.result.opening in
-    let w = others_waiting c.perform-turn.ensures (c.loop-turn.invariant m start) in
-    let on = step_answers _ _ _ _ _ (laws n) w (meaning o) c.in-ok-outcome.outcome c.in-ok-outcome.ensures c.in-default.not-Opened in
-    let says = subst (λ (x : Outcome). StepSays (meaning n) p (meaning o) (Ok x)) on c.in-ok-outcome.ensures in
+    let w = others_waiting c.perform_turn.ensures (c.loop-turn.invariant m start) in
+    let on = step_answers _ _ _ _ _ (laws n) w (meaning o) c.in_ok-outcome.outcome c.in_ok-outcome.ensures c.in_default.not-Opened in
+    let says = subst (λ (x : Outcome). StepSays (meaning n) p (meaning o) (Ok x)) on c.in_ok-outcome.ensures in
     let e : suc (most - (turn + 1)) ≡ most - turn = omega (arith, c.loop-turn-test.true) in
     subst (λ (i : ℕ). Waiting m p (turns p others i) (most - (turn + 1)) (meaning o)) (sym (add-one turn))
     (step_goes _ _ _ _ _ (laws n) w (meaning o) (most - (turn + 1)) e says (laws o))
@@ -61,5 +61,5 @@ unreachable-requires g c =
     let laws = g.met.K.Enquiry.sound in
     let k = c.open.new.self in
     let w = c.loop-turn.invariant (meaning c.args.keeper.now)
-    (begins_waiting (meaning c.args.keeper.now) (meaning k) c.args.program c.declared-most.result.opening (laws c.args.keeper.now) (laws k) c.in-ok-open.ensures (ap (λ d. d.opening) c.declared-most.ensures)) in
+    (begins_waiting (meaning c.args.keeper.now) (meaning k) c.args.program c.declared-most.result.opening (laws c.args.keeper.now) (laws k) c.in_ok-open.ensures (ap (λ d. d.opening) c.declared-most.ensures)) in
     omega (arith, steps_left _ _ _ _ _ (laws c.loop-turn.keeper) w, c.loop-turn-test.false)

@@ -9,6 +9,6 @@ use Rattle.counting.proofs.keep.CountingEnquiry.stage.Goals as goal
 pub returns : goal.returns
 returns c =
     let k = c.args.self.now in
-    let p = c.in-ok-p.p in
-    let seat = c.in-ok-p.ensures in
+    let p = c.in_ok-p.p in
+    let seat = c.in_ok-p.ensures in
     subst (λ q. Ok (get_or k.stages p Idle) ≡ stage_answer (meaning_of (state_of k)) q) seat.0 (stage_says k p (omega (arith, seat)))

@@ -6,9 +6,9 @@ use Rattle.counting.proofs.keep.CountingKeeper.open.Goals as goal
 pub returns : goal.returns
 returns c =
     let k = c.args.self.now in
-    let e = c.begin-open.ensures in
+    let e = c.begin_open.ensures in
     record {
-      says = open_says (state_of k) (good k) c.args.program (state_of c.begin-open.new.self) c.begin-open.result e.after e.value;
+      says = open_says (state_of k) (good k) c.args.program (state_of c.begin_open.new.self) c.begin_open.result e.after e.value;
       after = e.after;
       value = e.value;
     }

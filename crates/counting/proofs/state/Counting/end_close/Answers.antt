@@ -8,45 +8,47 @@ use Rattle.counting.specs.Steps.{closing_held, close_good}
 use Rattle.counting.proofs.state.Counting.end_close.Goals as goal
 use Rattle.counting.proofs.state.Counting.end_close.Goals.{else-count-eq1-via-then-count-eq1+else-serial-self, else-count-eq1-via-else-count-eq1, Then-serial-self, After-lowered}
 
-pub row-of-i-requires : goal.row-of-i-requires
-row-of-i-requires c = let k = c.args.self.now in closing_held (state_of k) (good k) c.args.p c.requires.within c.args.serial c.requires.closes
+pub row_of-i-requires : goal.row_of-i-requires
+row_of-i-requires c = let k = c.args.self.now in closing_held (state_of k) (good k) c.args.p c.requires.within c.args.serial c.requires.closes
 
 handed : (c : goal.Then-serial-self) → last_one (state_of c.args.self.now) c.args.serial ≡ true
-handed c = frees c.args.self.now c.args.serial c.row-of-i.result c.row-of-i.ensures.value c.row-of-i.ensures.bound (sym c.count.ensures ∙ c.if-count-eq1.true) c.if-serial-self.true
+handed c = frees c.args.self.now c.args.serial c.row_of-i.result c.row_of-i.ensures.value c.row_of-i.ensures.bound (sym c.count.ensures ∙ c.if-count-eq1.true) c.if-serial-self.true
 
 left : (c : goal.After-lowered) → last_one (state_of c.args.self.now) c.args.serial ≡ false
-left c = stays c.args.self.now c.args.serial c.row-of-i.result c.row-of-i.ensures.value c.row-of-i.ensures.bound
+left c = stays c.args.self.now c.args.serial c.row_of-i.result c.row_of-i.ensures.value c.row_of-i.ensures.bound
     (λ one. elim c.else-count-eq1.branch [
       | else-count-eq1-via-then-count-eq1+else-serial-self w ↦ w.if-serial-self.false
       | else-count-eq1-via-else-count-eq1 w ↦ absurd (w.if-count-eq1.false (c.count.ensures ∙ one))
     ])
 
-pub invariant-of-self : goal.invariant-of-self
-invariant-of-self c =
+pub invariant_of-self : goal.invariant_of-self
+invariant_of-self c =
     let k = c.args.self.now in
-    fields _ _ (view_closed k true c.args.serial c.args.p c.row-of-i.result Empty (handed c) c.row-of-i.ensures.value c.row-of-i.ensures.bound refl)
-    (close_good (state_of k) (good k) c.args.p c.requires.within c.args.serial c.requires.closes)
+    let held = fields _ _ (view_closed k true c.args.serial c.args.p c.row_of-i.result Empty (handed c) c.row_of-i.ensures.value c.row_of-i.ensures.bound refl)
+    (close_good (state_of k) (good k) c.args.p c.requires.within c.args.serial c.requires.closes) in
+    record { sized = held.0; filled = held.1.0; counted = held.1.1.0 }
 
 pub returns-then-serial-self : goal.returns-then-serial-self
 returns-then-serial-self c =
     let k = c.args.self.now in
     let l = handed (goal.at.returns-then-serial-self c).Then-serial-self in
     record {
-      after = view_closed k true c.args.serial c.args.p c.row-of-i.result Empty l c.row-of-i.ensures.value c.row-of-i.ensures.bound refl;
+      after = view_closed k true c.args.serial c.args.p c.row_of-i.result Empty l c.row_of-i.ensures.value c.row_of-i.ensures.bound refl;
       value = sym (ap (λ b. cond b (HandedOut c.args.serial) Nothing) l);
     }
 
-pub invariant-of-self-2 : goal.invariant-of-self-2
-invariant-of-self-2 c =
+pub invariant_of-self-2 : goal.invariant_of-self-2
+invariant_of-self-2 c =
     let k = c.args.self.now in
-    fields _ _ (view_closed k false c.args.serial c.args.p c.row-of-i.result c.lowered.result (left c) c.row-of-i.ensures.value c.row-of-i.ensures.bound c.lowered.ensures)
-    (close_good (state_of k) (good k) c.args.p c.requires.within c.args.serial c.requires.closes)
+    let held = fields _ _ (view_closed k false c.args.serial c.args.p c.row_of-i.result c.lowered.result (left c) c.row_of-i.ensures.value c.row_of-i.ensures.bound c.lowered.ensures)
+    (close_good (state_of k) (good k) c.args.p c.requires.within c.args.serial c.requires.closes) in
+    record { sized = held.0; filled = held.1.0; counted = held.1.1.0 }
 
 pub returns : goal.returns
 returns c =
     let k = c.args.self.now in
     let l = left (goal.at.returns c).After-lowered in
     record {
-      after = view_closed k false c.args.serial c.args.p c.row-of-i.result c.lowered.result l c.row-of-i.ensures.value c.row-of-i.ensures.bound c.lowered.ensures;
+      after = view_closed k false c.args.serial c.args.p c.row_of-i.result c.lowered.result l c.row_of-i.ensures.value c.row_of-i.ensures.bound c.lowered.ensures;
       value = sym (ap (λ b. cond b (HandedOut c.args.serial) Nothing) l);
     }

@@ -17,12 +17,13 @@ vacant-i-requires c =
     let k = c.args.self.now in
     omega (arith, room (state_of k) (good k) c.args.p c.requires.within (ap engaged c.requires.offers ∙ ap (λ s. Some s) c.if-over-self.false), k.sized)
 
-pub invariant-of-self : goal.invariant-of-self
-invariant-of-self c =
+pub invariant_of-self : goal.invariant_of-self
+invariant_of-self c =
     let k = c.args.self.now in
     let n = version (c.args.over + 1) c.args.root in
-    fields _ _ (view_changed k n c.args.p (Offered c.args.over) c.vacant-i.result (Held n 0) ∙ ap (λ i. changed (state_of k) n c.args.p (Offered c.args.over) i (Held n 0)) c.vacant-i.ensures.value)
-    (accept_good (state_of k) (good k) c.args.p c.requires.within c.args.root c.args.over c.requires.offers c.if-over-self.false)
+    let held = fields _ _ (view_changed k n c.args.p (Offered c.args.over) c.vacant-i.result (Held n 0) ∙ ap (λ i. changed (state_of k) n c.args.p (Offered c.args.over) i (Held n 0)) c.vacant-i.ensures.value)
+    (accept_good (state_of k) (good k) c.args.p c.requires.within c.args.root c.args.over c.requires.offers c.if-over-self.false) in
+    record { sized = held.0; filled = held.1.0; counted = held.1.1.0 }
 
 pub returns : goal.returns
 returns c =

@@ -6,24 +6,25 @@ use Rattle.counting.specs.Bridge.{good, fields, view_row, few_users}
 use Rattle.counting.specs.Steps.{current_held, open_good}
 use Rattle.counting.proofs.state.Counting.end_open.Goals as goal
 
-pub row-of-i-requires : goal.row-of-i-requires
-row-of-i-requires c = let k = c.args.self.now in current_held (state_of k) (good k)
+pub row_of-i-requires : goal.row_of-i-requires
+row_of-i-requires c = let k = c.args.self.now in current_held (state_of k) (good k)
 
 pub raised-requires : goal.raised-requires
-raised-requires c = omega (arith, few_users c.args.self.now c.row-of-i.result c.row-of-i.ensures.bound)
+raised-requires c = omega (arith, few_users c.args.self.now c.row_of-i.result c.row_of-i.ensures.bound)
 
-pub invariant-of-self : goal.invariant-of-self
-invariant-of-self c =
+pub invariant_of-self : goal.invariant_of-self
+invariant_of-self c =
     let k = c.args.self.now in
     let s = k.current.serial in
-    fields _ _ (view_row k raised s c.args.p (Open s) c.row-of-i.result c.raised.result c.row-of-i.ensures.value c.row-of-i.ensures.bound c.raised.ensures)
-    (open_good (state_of k) (good k) c.args.p c.requires.within c.requires.opens)
+    let held = fields _ _ (view_row k raised s c.args.p (Open s) c.row_of-i.result c.raised.result c.row_of-i.ensures.value c.row_of-i.ensures.bound c.raised.ensures)
+    (open_good (state_of k) (good k) c.args.p c.requires.within c.requires.opens) in
+    record { sized = held.0; filled = held.1.0; counted = held.1.1.0 }
 
 pub returns : goal.returns
 returns c =
     let k = c.args.self.now in
     let s = k.current.serial in
     record {
-      after = view_row k raised s c.args.p (Open s) c.row-of-i.result c.raised.result c.row-of-i.ensures.value c.row-of-i.ensures.bound c.raised.ensures;
+      after = view_row k raised s c.args.p (Open s) c.row_of-i.result c.raised.result c.row_of-i.ensures.value c.row_of-i.ensures.bound c.raised.ensures;
       value = refl;
     }

@@ -7,6 +7,6 @@ use Rattle.counting.proofs.state.Counting.label.Goals as goal
 pub returns : goal.returns
 returns c =
     let k = c.args.self.now in
-    let p = c.in-ok-p.p in
-    let seat = c.in-ok-p.ensures in
-    subst (λ (q : ℕ). Ok c.label-of.result ≡ label_answer (state_of k) q) seat.0 (label_says k p (omega (arith, seat)) c.label-of.result c.label-of.ensures)
+    let p = c.in_ok-p.p in
+    let seat = c.in_ok-p.ensures in
+    subst (λ (q : ℕ). Ok c.label_of.result ≡ label_answer (state_of k) q) seat.0 (label_says k p (omega (arith, seat)) c.label_of.result c.label_of.ensures)
