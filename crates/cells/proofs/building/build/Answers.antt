@@ -6,13 +6,13 @@ use Rattle.cells.proofs.building.build.Goals as goal
 
 pub returns : goal.returns
 returns g c =
-    let e = c.fill-first.ensures in
+    let e = c.fill_first.ensures in
     let m = memory c.args.heads.now c.args.cells.now in
-    let n = memory c.fill-first.new.heads c.fill-first.new.cells in
+    let n = memory c.fill_first.new.heads c.fill_first.new.cells in
     record {
       answer = e.answer;
       after = e.after;
       leaves = e.leaves;
-      counts = build_counts c.args.fields m (length c.args.leaves.now) c.fill-first.result n e.answer e.after;
-      promises = build_promises c.args.fields c.args.leaf m c.args.leaves.now c.fill-first.result n c.fill-first.new.leaves e.answer e.after e.leaves;
+      counts = build_counts c.args.fields m (length c.args.leaves.now) c.fill_first.result n e.answer e.after;
+      promises = build_promises c.args.fields c.args.leaf m c.args.leaves.now c.fill_first.result n c.fill_first.new.leaves e.answer e.after e.leaves;
     }

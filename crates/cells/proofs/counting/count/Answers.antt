@@ -5,6 +5,6 @@ use Rattle.cells.proofs.counting.count.Goals as goal
 
 pub returns : goal.returns
 returns c = record {
-  value = c.read-count.ensures;
-  promises = λ h names s. count_promises (memory h c.args.cells.now) names s c.args.c c.read-count.result c.read-count.ensures;
+  value = c.read_count.ensures;
+  promises = λ h names s. count_promises (memory h c.args.cells.now) names s c.args.c c.read_count.result c.read_count.ensures;
 }

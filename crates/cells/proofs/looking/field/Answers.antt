@@ -4,6 +4,6 @@ use Rattle.cells.proofs.looking.field.Goals as goal
 
 pub returns : goal.returns
 returns c = record {
-  answer = c.read-field.ensures;
-  promises = field_promises c.args.cells.now c.args.c c.args.k c.read-field.result c.read-field.ensures;
+  answer = c.read_field.ensures;
+  promises = field_promises c.args.cells.now c.args.c c.args.k c.read_field.result c.read_field.ensures;
 }

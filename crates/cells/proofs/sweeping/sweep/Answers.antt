@@ -5,11 +5,11 @@ use Rattle.cells.proofs.sweeping.sweep.Goals as goal
 
 pub returns : goal.returns
 returns g c =
-    let e = c.free-first.ensures in
+    let e = c.free_first.ensures in
     let m = memory c.args.heads.now c.args.cells.now in
-    let n = memory c.free-first.new.heads c.free-first.new.cells in
+    let n = memory c.free_first.new.heads c.free_first.new.cells in
     record {
       answer = e.answer;
       after = e.after;
-      promises = sweep_promises m c.args.leaves.now c.free-first.result n e.answer e.after;
+      promises = sweep_promises m c.args.leaves.now c.free_first.result n e.answer e.after;
     }
