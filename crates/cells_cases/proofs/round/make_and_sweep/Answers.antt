@@ -11,7 +11,7 @@ use Rattle.cells_theory.specs.Promises.{Live, LiveFields}
 use Rattle.cells_theory.proofs.Counts.{named_live}
 use Rattle.cells_theory.proofs.Steps.{after_build, after_sweep, built}
 use Rattle.cells_cases.proofs.round.make_and_sweep.Goals as goal
-use Rattle.cells_cases.proofs.round.make_and_sweep.Goals.{in-Ok, in-default}
+use Rattle.cells_cases.proofs.round.make_and_sweep.Goals.{in-Ok, in_default}
 
 abbrev twice : List Field
 twice = field.Cell 0 ∷ field.Empty ∷ field.Number 5 ∷ field.Cell 0 ∷ []
@@ -40,9 +40,9 @@ returns g c = λ some few leaf.
     let s₁ : Sound m₁ (built c.build-built.result names) =
     after_build twice c.args.leaf m₀ c.make-heads.new.leaves c.build-built.result m₁ c.build-built.new.leaves names c.build-built.ensures.promises c.build-built.ensures.after (twice-live m₀ (named_live m₀ names 0 s₀ (omega arith))) s₀ in
     let s₂ : Sound m₂ names = elim c.match-built.branch [
-      | in-Ok w ↦ moved c.match-built.heads w.let-go.new.heads c.match-built.cells w.let-go.new.cells names w.heads-is w.cells-is
-          (w.let-go.ensures.promises.sound (w.in-Ok.c ∷ names) names (λ d. omega arith) (subst (λ (r : Result ℕ Fault). Sound m₁ (built r names)) w.in-Ok.is s₁))
-      | in-default w ↦ moved c.match-built.heads c.build-built.new.heads c.match-built.cells c.build-built.new.cells names w.heads-is w.cells-is
-          (subst (λ (r : Result ℕ Fault). Sound m₁ (built r names)) w.in-default.is s₁)
+      | in-Ok w ↦ moved c.match-built.heads w.let_go.new.heads c.match-built.cells w.let_go.new.cells names w.heads-is w.cells-is
+          (w.let_go.ensures.promises.sound (w.in-Ok.c ∷ names) names (λ d. omega arith) (subst (λ (r : Result ℕ Fault). Sound m₁ (built r names)) w.in-Ok.is s₁))
+      | in_default w ↦ moved c.match-built.heads c.build-built.new.heads c.match-built.cells c.build-built.new.cells names w.heads-is w.cells-is
+          (subst (λ (r : Result ℕ Fault). Sound m₁ (built r names)) w.in_default.is s₁)
     ] in
     after_sweep m₂ c.build-built.new.leaves c.sweep.result (memory c.sweep.new.heads c.sweep.new.cells) names c.sweep.ensures.promises c.sweep.ensures.after s₂

@@ -2,7 +2,7 @@ use Rattle.std.proofs.Common.{◌+◌, ◌*◌}
 use Rattle.exchange.proofs.Rows.{inside_set}
 use Rattle.exchange.proofs.desks.place_building.Goals as goal
 
-pub invariant-of-result : goal.invariant-of-result
-invariant-of-result c =
+pub invariant_of-result : goal.invariant_of-result
+invariant_of-result c =
     let d = c.args.places in
-    (d.reads, (inside_set d.cells d.building (8 * c.args.p + c.args.b) c.args.named c.requires.cell d.builds, tt))
+    record { reads = d.reads; builds = inside_set d.cells d.building (8 * c.args.p + c.args.b) c.args.named c.requires.cell d.builds }

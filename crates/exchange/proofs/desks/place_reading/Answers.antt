@@ -3,7 +3,10 @@ use Rattle.std.proofs.lemmas.Bool.{lt-ltb}
 use Rattle.exchange.proofs.Rows.{inside_set}
 use Rattle.exchange.proofs.desks.place_reading.Goals as goal
 
-pub invariant-of-result : goal.invariant-of-result
-invariant-of-result c =
+pub invariant_of-result : goal.invariant_of-result
+invariant_of-result c =
     let d = c.args.places in
-    (inside_set d.cells d.reading (8 * c.args.p + c.args.a) (Some c.args.c) (lt-ltb c.args.c d.cells c.requires.cell) d.reads, (d.builds, tt))
+    record {
+      reads = inside_set d.cells d.reading (8 * c.args.p + c.args.a) (Some c.args.c) (lt-ltb c.args.c d.cells c.requires.cell) d.reads;
+      builds = d.builds;
+    }

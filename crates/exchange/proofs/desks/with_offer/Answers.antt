@@ -1,7 +1,7 @@
 use Rattle.exchange.proofs.Rows.{under_set}
 use Rattle.exchange.proofs.desks.with_offer.Goals as goal
 
-pub invariant-of-result : goal.invariant-of-result
-invariant-of-result c =
+pub invariant_of-result : goal.invariant_of-result
+invariant_of-result c =
     let d = c.args.desk in
-    (d.few, (under_set 8 d.offered c.args.p c.args.b c.requires.place d.offers, tt))
+    record { few = d.few; offers = under_set 8 d.offered c.args.p c.args.b c.requires.place d.offers }

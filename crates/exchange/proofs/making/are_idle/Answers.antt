@@ -7,14 +7,14 @@ use Rattle.exchange_theory.specs.Make.{idle_below}
 use Rattle.exchange.proofs.Idles.{not_idle}
 use Rattle.exchange.proofs.making.are_idle.Goals as goal
 
-pub returns-then-not-is-idle : goal.returns-then-not-is-idle
-returns-then-not-is-idle g c =
+pub returns-then-not-is_idle : goal.returns-then-not-is_idle
+returns-then-not-is_idle g c =
     let m = g.K.Enquiry.meaning c.args.keeper.now in
     let p = c.loop-p.p in
-    sym (not_idle m m.programs p (omega (arith, c.loop-p-test.true, c.programs-p-end.ensures)) (sym {a = false} {b = idle (stage_of m p)} c.if-not-is-idle.ensures))
+    sym (not_idle m m.programs p (omega (arith, c.loop-p-test.true, c.programs-p-end.ensures)) (sym {a = false} {b = idle (stage_of m p)} c.if-not-is_idle.ensures))
 
 pub loop-p-preserved : goal.loop-p-preserved
 loop-p-preserved g c =
     let m = g.K.Enquiry.meaning c.args.keeper.now in
     let p = c.loop-p.p in
-    rw add-one (and_from (idle_below m p) (idle (stage_of m p)) c.loop-p.invariant (sym {a = true} {b = idle (stage_of m p)} c.if-not-is-idle.ensures))
+    rw add-one (and_from (idle_below m p) (idle (stage_of m p)) c.loop-p.invariant (sym {a = true} {b = idle (stage_of m p)} c.if-not-is_idle.ensures))

@@ -4,5 +4,5 @@ use Rattle.announcement.proofs.keep.AnnouncingEnquiry.stage.Goals as goal
 
 pub returns : goal.returns
 returns c =
-    let seat = c.in-ok-p.ensures in
-    stage_says c.args.self.now _ _ seat.0 (omega (arith, seat)) _ c.stage-of.ensures
+    let seat = c.in_ok-p.ensures in
+    stage_says c.args.self.now _ _ seat.0 (omega (arith, seat)) _ c.stage_of.ensures

@@ -6,5 +6,5 @@ use Rattle.announcement.proofs.state.Announcing.label.Goals as goal
 
 pub returns : goal.returns
 returns c =
-    let seat = c.in-ok-p.ensures in
-    label_says c.args.self.now _ _ seat.0 (omega (arith, seat)) _ (c.label-of.ensures ∙ ap (λ (x : Seat). label_of x.position) c.seat-at.ensures)
+    let seat = c.in_ok-p.ensures in
+    label_says c.args.self.now _ _ seat.0 (omega (arith, seat)) _ (c.label_of.ensures ∙ ap (λ (x : Seat). label_of x.position) c.seat_at.ensures)
