@@ -17,10 +17,10 @@ loop-call-preserved g c =
     let call = c.call-item.result in
     let w = world_of g.K.Enquiry.meaning c.perform-answer.new.self c.perform-answer.new.cells c.perform-answer.new.leaves in
     let e : take i row ++ (call ∷ []) ≡ take (i + 1) row = ap (λ (x : Call g.row.T.Denot). take i row ++ (x ∷ [])) c.call-item.is ∙ sym (take_more row i call c.loop-call-test.true) in (
-      omega (arith, c.loop-call.invariant.0, c.refusal-in-refused.ensures.low),
+      omega (arith, c.loop-call.invariant.0, c.refusal_in-refused.ensures.low),
       λ leaf h r p.
-          subst (λ (cs : List (Call g.row.T.Denot)). Performed leaf h cs (c.loop-call.refused + c.refusal-in-refused.result) w) e
-          (subst (λ (k : ℕ). Performed leaf h (take i row ++ (call ∷ [])) (c.loop-call.refused + k) w) (sym c.refusal-in-refused.ensures.value)
+          subst (λ (cs : List (Call g.row.T.Denot)). Performed leaf h cs (c.loop-call.refused + c.refusal_in-refused.result) w) e
+          (subst (λ (k : ℕ). Performed leaf h (take i row ++ (call ∷ [])) (c.loop-call.refused + k) w) (sym c.refusal_in-refused.ensures.value)
           (performed_more (take i row) c.loop-call.refused call c.perform-answer.result (c.loop-call.invariant.1 leaf h r p) c.perform-answer.ensures.runs)),
     )
 
