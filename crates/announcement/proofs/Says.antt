@@ -1,10 +1,8 @@
 -- From the exact state and answer of a call to what the keeper interface says of it.
-use Rattle.std.proofs.Common.{◌≡◌, ℕ, ◌<◌, Bool, true, false, not, eqb, Some, None, Result, sym, refl, ap, ◌∙◌}
+use Rattle.std.proofs.Common.{◌≡◌, ℕ, not, Result, sym, ap, ◌∙◌}
 use Rattle.std.proofs.lemmas.Bool.{eq-eqb, false≢true}
 use Rattle.keeper.specs.declared.outcome.Outcome.{Outcome}
 use Rattle.keeper.specs.declared.fault.Fault.{Fault}
-use Rattle.keeper.specs.Stages.{idle, opened, closable, moving}
-use Rattle.keeper.specs.Meaning.{stage_of}
 use Rattle.keeper.specs.Effects.{OpenDone, PublishDone, CloseDone, StepDone, OpenSays, PublishSays, CloseSays, StepSays, open_fault, publish_fault, close_fault, step_fault}
 use Rattle.keeper.proofs.Faults.{seated, passed, in_range, allowed}
 use Rattle.keeper.proofs.Exact.{acts}

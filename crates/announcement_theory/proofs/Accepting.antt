@@ -7,9 +7,9 @@ use Rattle.announcement_theory.specs.declared.position.Round.TheVariants.{First,
 use Rattle.announcement_theory.specs.declared.position.Position.TheVariants.{F3, Offered}
 use Rattle.announcement_theory.specs.declared.seat.Seat.{Seat}
 use Rattle.announcement_theory.specs.State.{State, mark, seat, slot_at, seat_at, position_at, announced_at}
-use Rattle.announcement_theory.specs.Tests.{is_mark, serial_in, usable, pending}
+use Rattle.announcement_theory.specs.Tests.{is_mark, serial_in, pending}
 use Rattle.announcement_theory.specs.Next.{put, advance}
-use Rattle.announcement_theory.specs.Views.{Mentions, since, Opener, calm, ready, seeking, found, opener, settled, steady, offerer, owned, over_in, past, ranged}
+use Rattle.announcement_theory.specs.Views.{Mentions, Opener, calm, ready, seeking, found, opener, settled, steady, offerer, owned, over_in, past}
 use Rattle.announcement_theory.specs.Invariant.{Kept, waits, Good}
 use Rattle.announcement_theory.proofs.Basics.{false_true, true_false, clash, some_same, none_some, mark_same, same_mark, usable_pending}
 use Rattle.announcement_theory.proofs.Roles.{offering_about}

@@ -6,7 +6,7 @@ use Rattle.announcement_theory.specs.declared.position.Position.{Position}
 use Rattle.announcement_theory.specs.State.{State, mark, seat, slot_at, seat_at, position_at, announced_at}
 use Rattle.announcement_theory.specs.Tests.{is_mark, serial_in, pending, frozen}
 use Rattle.announcement_theory.specs.Next.{announce}
-use Rattle.announcement_theory.specs.Views.{asking, manner, fits, since, seeking, owned_in, owned, pends, closer, ranged}
+use Rattle.announcement_theory.specs.Views.{asking, manner, fits, since, owned_in, owned, pends, closer}
 use Rattle.announcement_theory.specs.Shares.{past_of}
 use Rattle.announcement_theory.specs.Invariant.{pends_on, leaves_on, Good}
 use Rattle.announcement_theory.proofs.Basics.{clash, none_some, mark_self, serial_holds, usable_filled, usable_frozen, pending_frozen, owned_is, flag_asks}

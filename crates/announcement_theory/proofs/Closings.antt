@@ -8,7 +8,7 @@ use Rattle.announcement_theory.specs.declared.seat.Seat.{Seat}
 use Rattle.announcement_theory.specs.State.{State, mark, seat, slot_at, seat_at, position_at, announced_at}
 use Rattle.announcement_theory.specs.Tests.{is_mark, asks, bears, serial_in, pending, frozen}
 use Rattle.announcement_theory.specs.Next.{put}
-use Rattle.announcement_theory.specs.Views.{owned, closer, ranged}
+use Rattle.announcement_theory.specs.Views.{owned, closer}
 use Rattle.announcement_theory.specs.Shares.{share}
 use Rattle.announcement_theory.specs.Invariant.{Holds, Kept, pends_on, leaves_on, waits, Good}
 use Rattle.announcement_theory.proofs.Basics.{false_true, true_false, clash, mark_same, mark_self, mark_flip, serial_holds}

@@ -2,20 +2,18 @@
 use Rattle.std.proofs.Common.{◌≡◌, ℕ, ◌+◌, ◌*◌, ◌<◌, ◌≤◌, eqb, List, map, length, get_or, set, Option, sym, refl, ap, ◌∙◌, inl, arith}
 use Rattle.keeper.proofs.Totals.{total_set, map-set}
 use Rattle.announcement_theory.specs.declared.mark.Mark.{Mark}
-use Rattle.announcement_theory.specs.declared.position.Position.TheVariants.{Idle, Open, Offered}
 use Rattle.announcement_theory.specs.declared.seat.Seat.{Seat}
 use Rattle.announcement_theory.specs.State.{State, unseated, slot_at, seat_at, position_at}
 use Rattle.announcement_theory.specs.Next.{put}
 use Rattle.announcement_theory.specs.Views.{Mentions, since, owned}
 use Rattle.announcement_theory.specs.Invariant.{Holds, Good}
 use Rattle.announcement_theory.proofs.Basics.{at_same, at_other}
-use Rattle.announcement_theory.proofs.Roles.{closing}
 use Rattle.announcement_theory.proofs.Good.{Other}
 use Rattle.keeper.specs.declared.version.Version.{Version}
 use Rattle.keeper.specs.declared.stage.Stage.{Stage}
 use Rattle.keeper.specs.declared.stage.Stage.TheVariants as stage
-use Rattle.keeper.specs.Meaning.{Meaning, stage_of, left_of, same}
-use Rattle.announcement_theory.specs.Means.{bound, stage_in, left_at, is_slot, owners, entry_in, entry_at, kept_of, meaning_of}
+use Rattle.keeper.specs.Meaning.{Meaning, stage_of, left_of}
+use Rattle.announcement_theory.specs.Means.{stage_in, left_at, is_slot, owners, entry_in, entry_at, kept_of, meaning_of}
 use Rattle.keeper.specs.declared.outcome.Outcome.TheVariants.{GoesOn, Opened, Stale, Nothing}
 use Rattle.keeper.specs.Effects.{Begun, Openable, Frame, Unmoved, Agrees, StepDone}
 use Rattle.announcement_theory.proofs.Gathered.{gathered_same}

@@ -13,7 +13,7 @@ use Rattle.announcement_theory.specs.declared.seat.Seat.{Seat}
 use Rattle.announcement_theory.specs.State.{State, mark, seat, slot_at, seat_at, position_at, announced_at}
 use Rattle.announcement_theory.specs.Tests.{is_mark, announces, filled, serial_in, root_in, holds, usable}
 use Rattle.announcement_theory.specs.Next.{put, fill}
-use Rattle.announcement_theory.specs.Views.{about, Mentions, seeking, owns, offerer, owned, over_in, Closer, stays, pends, sweeps, closer, ranged}
+use Rattle.announcement_theory.specs.Views.{about, Mentions, owns, offerer, owned, over_in, Closer, stays, pends, sweeps, closer}
 use Rattle.announcement_theory.specs.Shares.{uses, below, used, share_of, owned_below, share, past_of}
 use Rattle.announcement_theory.specs.Invariant.{Holds, waits_on, Good}
 use Rattle.announcement_theory.proofs.Basics.{false_true, some_same, none_some, mark_self, holds_serial, owner_owns, owner_of}

@@ -15,7 +15,7 @@ use Rattle.announcement_theory.specs.declared.seat.Seat.{Seat}
 use Rattle.announcement_theory.specs.State.{State, mark, seat, slot_at, seat_at, position_at, announced_at}
 use Rattle.announcement_theory.specs.Tests.{is_mark, filled, serial_in, holds, usable, pending, frozen, restated}
 use Rattle.announcement_theory.specs.Next.{put, fill}
-use Rattle.announcement_theory.specs.Views.{silent, manner, fits, about, spare, since, seeking, aside, offerer, owned_in, owned, pends, sweeps, closer, ranged}
+use Rattle.announcement_theory.specs.Views.{silent, manner, fits, about, spare, since, aside, offerer, owned_in, owned, pends, sweeps, closer, ranged}
 use Rattle.announcement_theory.specs.Shares.{done, used, share_of, owned_below, past_of}
 use Rattle.announcement_theory.specs.Invariant.{Holds, waits_on, waits, Good}
 use Rattle.announcement_theory.proofs.Basics.{false_true, clash, none_some, mark_same, same_mark, holds_filled, holds_serial, serial_holds, usable_filled, usable_pending, usable_frozen, pending_frozen, owned_is, owner_owns, beyond}

@@ -4,7 +4,7 @@ use Rattle.std.proofs.lemmas.Bool.{cases_eq, ne_eqb, eqb-true}
 use Rattle.std.proofs.lemmas.Bool.Decides.{nat_tests}
 use Rattle.keeper.specs.Totals.{total}
 use Rattle.keeper.specs.declared.version.Version.{Version}
-use Rattle.keeper.specs.Meaning.{version, is_serial, same, times, copies, root_at}
+use Rattle.keeper.specs.Meaning.{is_serial, same, times, copies, root_at}
 use Rattle.announcement_theory.specs.Means.{ahead, gathered}
 
 -- the sum over what one place has

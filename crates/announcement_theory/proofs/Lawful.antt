@@ -15,7 +15,6 @@ use Rattle.announcement_theory.specs.declared.seat.Seat.{Seat}
 use Rattle.announcement_theory.specs.State.{State, mark, unseated, slot_at, seat_at, position_at, announced_at}
 use Rattle.announcement_theory.specs.Tests.{version_in, serial_in, root_in}
 use Rattle.announcement_theory.specs.Views.{holding, manner, fits, Mentions, since, closer, ranged}
-use Rattle.announcement_theory.specs.Shares.{used}
 use Rattle.announcement_theory.specs.Invariant.{Holds, Kept, waits, Good}
 use Rattle.announcement_theory.proofs.Basics.{false_true, some_same, none_some, mark_same, holds_serial, holding_plain, beyond}
 use Rattle.announcement_theory.proofs.Roles.{closed}

@@ -6,9 +6,8 @@ use Rattle.announcement_theory.specs.declared.announcement.Announcement.TheVaria
 use Rattle.announcement_theory.specs.declared.position.Position.TheVariants.{Open, F1, F2, F3, Offered}
 use Rattle.announcement_theory.specs.declared.seat.Seat.{Seat}
 use Rattle.announcement_theory.specs.State.{State, seat, seat_at, announced_at}
-use Rattle.announcement_theory.specs.Tests.{is_mark, flagged, usable}
+use Rattle.announcement_theory.specs.Tests.{is_mark, flagged}
 use Rattle.announcement_theory.specs.Next.{put}
-use Rattle.announcement_theory.specs.Views.{seeking, ranged}
 use Rattle.announcement_theory.specs.Shares.{share, accounted}
 use Rattle.announcement_theory.proofs.Basics.{clash}
 use Rattle.announcement_theory.specs.Invariant.{Good}

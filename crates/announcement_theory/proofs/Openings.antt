@@ -10,7 +10,7 @@ use Rattle.announcement_theory.specs.declared.position.Position.TheVariants.{Idl
 use Rattle.announcement_theory.specs.State.{State, seat, slot_at, seat_at}
 use Rattle.announcement_theory.specs.Tests.{is_mark, pending, frozen}
 use Rattle.announcement_theory.specs.Next.{put}
-use Rattle.announcement_theory.specs.Views.{asking, fits, Opener, calm, ready, seeking, found, settled, steady, ranged}
+use Rattle.announcement_theory.specs.Views.{asking, fits, Opener, calm, ready, seeking, found, settled, steady}
 use Rattle.announcement_theory.specs.Shares.{hopes, lost, share_of}
 use Rattle.announcement_theory.proofs.Basics.{false_true, clash, mark_same, mark_self, mark_flip, serial_holds, usable_filled, usable_pending, usable_frozen}
 use Rattle.announcement_theory.specs.Invariant.{Good}

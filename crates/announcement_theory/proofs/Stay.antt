@@ -7,9 +7,9 @@ use Rattle.announcement_theory.specs.declared.announcement.Announcement.{Announc
 use Rattle.announcement_theory.specs.declared.announcement.Announcement.TheVariants as announcement
 use Rattle.announcement_theory.specs.declared.seat.Seat.{Seat}
 use Rattle.announcement_theory.specs.State.{State, unseated, seat_at, position_at, announced_at}
-use Rattle.announcement_theory.specs.Tests.{is_mark, flagged, announces, usable, pending, frozen}
+use Rattle.announcement_theory.specs.Tests.{is_mark, flagged, announces}
 use Rattle.announcement_theory.specs.Next.{put}
-use Rattle.announcement_theory.specs.Views.{manner, fits, about, spare, Mentions, since, Opener, calm, ready, seeking, found, opener, steady, Offerer, aside, seeks, owns, offerer, owned_in, owned, over_in, Closer, stays, checks, past, pends, sweeps, closer, ranged}
+use Rattle.announcement_theory.specs.Views.{manner, fits, about, spare, Mentions, since, Opener, calm, ready, seeking, found, opener, Offerer, aside, seeks, owns, offerer, owned_in, owned, over_in, Closer, stays, checks, past, pends, sweeps, closer, ranged}
 use Rattle.announcement_theory.specs.Shares.{share, accounted}
 use Rattle.announcement_theory.specs.Invariant.{Kept, waits, Good}
 use Rattle.announcement_theory.proofs.Basics.{clash, none_some, owned_is, owner_owns}

@@ -14,7 +14,6 @@ use Rattle.announcement_theory.specs.Next.{put, fill, advance}
 use Rattle.announcement_theory.specs.Views.{about, Mentions, offerer, owned, closer}
 use Rattle.announcement_theory.specs.Invariant.{Holds, Kept, Good}
 use Rattle.announcement_theory.proofs.Basics.{clash, holds_serial, usable_frozen, at_same}
-use Rattle.announcement_theory.proofs.Stay.{kept_here}
 use Rattle.announcement_theory.proofs.Waiting.{current_stands, mentioned_kept, current_kept, current_only}
 use Rattle.announcement_theory.proofs.Fillings.{one_slot, says_mentions}
 use Rattle.announcement_theory.proofs.Writes.{slot_same, slot_other, slot_each}

@@ -8,7 +8,7 @@ use Rattle.announcement_theory.specs.declared.announcement.Announcement.TheVaria
 use Rattle.announcement_theory.specs.State.{State, slot_at, seat_at, position_at, announced_at}
 use Rattle.announcement_theory.specs.Tests.{is_mark, serial_in, root_in, holds, usable, pending, frozen}
 use Rattle.announcement_theory.specs.Next.{fill}
-use Rattle.announcement_theory.specs.Views.{Mentions, since, ready, opener, steady, owns, offerer, owned, pends, sweeps, closer, ranged}
+use Rattle.announcement_theory.specs.Views.{Mentions, ready, opener, owns, offerer, owned, pends, sweeps, closer}
 use Rattle.announcement_theory.specs.Invariant.{Good}
 use Rattle.announcement_theory.proofs.Good.{Other, Rest}
 

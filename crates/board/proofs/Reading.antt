@@ -1,5 +1,5 @@
 -- Reading and writing the arrays of a board, and the state that it holds.
-use Rattle.std.proofs.Common.{◌≡◌, ℕ, suc, ◌+◌, ◌*◌, ◌<◌, ◌≤◌, List, get_or, take, set, sym, refl, ap, ◌∙◌, arith}
+use Rattle.std.proofs.Common.{◌≡◌, ℕ, ◌+◌, ◌*◌, ◌<◌, ◌≤◌, List, get_or, set, sym, ap, arith}
 use Rattle.keeper.proofs.Fronts.{front_set, front_at, front_past, front_kept}
 use Rattle.announcement_theory.specs.declared.slot.Slot.{Slot}
 use Rattle.announcement_theory.specs.declared.slot.Slot.TheVariants as slot

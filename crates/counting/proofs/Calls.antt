@@ -1,24 +1,21 @@
 -- What each call of a counting keeper answers, from the stage that the code reads.
-use Rattle.std.proofs.Common.{◌≡◌, ℕ, ◌+◌, ◌<◌, ◌≤◌, Bool, true, false, cond, not, eqb, ltb, leb, ◌⊎◌, length, get_or, take, set, Some, None, Ok, Err, Option, Result, sym, refl, ap, ◌∙◌, subst, inl, inr, ⊎_elim, arith}
-use Rattle.std.proofs.lemmas.Bool.{cases_lt, lt-ltb, eq-eqb, ne_eqb, false≢true}
+use Rattle.std.proofs.Common.{◌≡◌, ℕ, ◌+◌, ◌<◌, ◌≤◌, true, false, cond, get_or, Some, None, Ok, Err, Option, Result, sym, refl, ap, ◌∙◌, subst, ⊎_elim, arith}
+use Rattle.std.proofs.lemmas.Bool.{cases_lt, lt-ltb, false≢true}
 use Rattle.keeper.specs.declared.stage.Stage.{Stage}
 use Rattle.keeper.specs.declared.stage.Stage.TheVariants.{Idle, Opening, Open, Offering, Offered, Closing}
 use Rattle.keeper.specs.declared.outcome.Outcome.{Outcome}
-use Rattle.keeper.specs.declared.outcome.Outcome.TheVariants.{Opened}
 use Rattle.keeper.specs.declared.fault.Refusal.TheVariants.{NoProgram, StageForbids, LastSerial}
 use Rattle.keeper.specs.declared.fault.Fault.{Fault}
-use Rattle.keeper.specs.Totals.{total}
 use Rattle.keeper.specs.Stages.{uses, named, has, engaged, idle, opened, closable, moving, serial_of}
-use Rattle.keeper.specs.Refusals.{fault, unless}
-use Rattle.keeper.specs.Meaning.{Meaning, is_serial, version, stage_of, root_at}
-use Rattle.keeper.specs.Effects.{open_fault, publish_fault, close_fault, step_fault, OpenSays, PublishSays, CloseSays, StepSays, StepDone, Begun, answer, stage_answer, root_answer, root_of}
+use Rattle.keeper.specs.Refusals.{fault}
+use Rattle.keeper.specs.Meaning.{Meaning, stage_of}
+use Rattle.keeper.specs.Effects.{answer, stage_answer, root_answer, root_of}
 use Rattle.keeper.proofs.Faults.{in_range, open_meets, publish_meets, publish_last, publish_allowed, close_meets, step_meets}
 use Rattle.keeper.proofs.Exact.{refused_state, refused_answer, done_state, done_answer}
-use Rattle.counting.specs.declared.rows.Row.{Row}
-use Rattle.counting.specs.declared.rows.Row.TheVariants.{Empty, Held}
+use Rattle.counting.specs.declared.rows.Row.TheVariants.{Empty}
 use Rattle.counting.specs.declared.state.Counting.{Counting}
-use Rattle.counting.specs.State.{State, on_row, steady}
-use Rattle.counting.specs.Moves.{stepped, answered, meaning_of, stage_at, put, place, opening, root_in, open_ends, offer_ends, offer_answers, close_ends, close_answers}
+use Rattle.counting.specs.State.{State}
+use Rattle.counting.specs.Moves.{stepped, answered, meaning_of, stage_at, put, place, root_in}
 use Rattle.counting.specs.Model.{state_of}
 use Rattle.counting.specs.Steps.{used_held}
 use Rattle.counting.specs.Means.{root_at_is, has_engaged}

@@ -1,17 +1,16 @@
 -- From the exact state and answer of a call to what the keeper interface says of it.
-use Rattle.std.proofs.Common.{◌≡◌, ℕ, ◌<◌, Bool, true, false, Some, None, Ok, Err, Option, Result, sym, refl, ap, ◌∙◌, subst}
+use Rattle.std.proofs.Common.{◌≡◌, ℕ, ◌<◌, true, None, Result, sym, refl, ◌∙◌}
 use Rattle.std.proofs.lemmas.Bool.{false≢true}
 use Rattle.keeper.specs.declared.stage.Stage.{Stage}
 use Rattle.keeper.specs.declared.stage.Stage.TheVariants.{Idle, Opening, Open, Offering, Offered, Closing}
 use Rattle.keeper.specs.declared.outcome.Outcome.{Outcome}
 use Rattle.keeper.specs.declared.fault.Fault.{Fault}
 use Rattle.keeper.specs.Stages.{moving, serial_of}
-use Rattle.keeper.specs.Meaning.{Meaning}
 use Rattle.keeper.specs.Effects.{OpenDone, PublishDone, CloseDone, StepDone, OpenSays, PublishSays, CloseSays, StepSays, open_fault, publish_fault, close_fault, step_fault}
 use Rattle.keeper.proofs.Exact.{acts}
 use Rattle.keeper.proofs.Faults.{seated, passed, in_range}
 use Rattle.counting.specs.State.{State}
-use Rattle.counting.specs.Moves.{meaning_of, stage_at, put, stepped, answered}
+use Rattle.counting.specs.Moves.{meaning_of, stage_at, stepped, answered}
 use Rattle.counting.specs.Calls.{opens, open_answer, publishes, publish_answer, closes, close_answer, steps, step_answer}
 use Rattle.counting.specs.Good.{Good}
 use Rattle.counting.specs.Means.{begun, open_step, offer_step, close_step}

@@ -1,11 +1,11 @@
 -- From the fields of a counting keeper to its state.
-use Rattle.std.specs.Prelude.{◌≡◌, ℕ, zero, suc, ◌+◌, ◌<◌, ◌≤◌, Bool, true, false, cond, List, [], ◌∷◌, length, take, replicate, ◌≢◌, slice_index_or, slice_set, refl}
+use Rattle.std.specs.Prelude.{◌≡◌, ℕ, zero, suc, ◌+◌, ◌<◌, ◌≤◌, Bool, true, false, cond, ◌∷◌, take, replicate, ◌≢◌, slice_index_or, slice_set, refl}
 use Rattle.std.proofs.Common.{sym, ap, ◌∙◌, subst, arith, add-one}
 use Rattle.std.proofs.lemmas.List.{take-replicate, length-replicate}
 use Rattle.std.proofs.lemmas.Bool.Decides.{nat_tests}
 use Rattle.keeper.specs.declared.version.Version.{Version}
 use Rattle.keeper.specs.declared.stage.Stage.{Stage}
-use Rattle.keeper.specs.declared.stage.Stage.TheVariants.{Idle, Opening, Open, Offering, Offered, Closing}
+use Rattle.keeper.specs.declared.stage.Stage.TheVariants.{Idle}
 use Rattle.keeper.specs.Totals.{total}
 use Rattle.keeper.specs.Stages.{uses, engaged}
 use Rattle.keeper.specs.Meaning.{is_serial, version}
@@ -14,8 +14,8 @@ use Rattle.keeper.proofs.Fronts.{front_set, front_at}
 use Rattle.counting.specs.declared.rows.Row.{Row}
 use Rattle.counting.specs.declared.rows.Row.TheVariants.{Empty, Held}
 use Rattle.counting.specs.declared.state.Counting.{Counting}
-use Rattle.counting.specs.State.{State, Sized, Filled, Counted, view, on_row, used_by, holds, empty, first, steady}
-use Rattle.counting.specs.Moves.{stage_at, row_at, place, put, both, raised, lowered, count, open_ends, accepts, last_one, close_ends, fresh}
+use Rattle.counting.specs.State.{State, Sized, Filled, Counted, view, on_row, used_by, steady}
+use Rattle.counting.specs.Moves.{stage_at, row_at, place, put, both, lowered, count, last_one, close_ends, fresh}
 use Rattle.counting.specs.Model.{state_of}
 use Rattle.counting.specs.Crowd.{crowd}
 use Rattle.counting.specs.Good.{Good, changed}

@@ -1,19 +1,19 @@
 -- Every move of the counting keeper keeps what always holds.
-use Rattle.std.specs.Prelude.{◌≡◌, ℕ, zero, suc, ◌+◌, ◌-◌, ◌<◌, ◌≤◌, Bool, true, false, cond, ◌⊎◌, List, [], ◌∷◌, length, Some, None, Option, ◌≢◌, slice_index_or, slice_set, refl}
-use Rattle.std.proofs.Common.{sym, ap, ◌∙◌, subst, inl, inr, ⊎_elim, arith, length-set, get_or-set_same, get_or-set_other}
-use Rattle.std.proofs.lemmas.Bool.{cases_eq, eq-eqb, ne_eqb, eqb-true}
+use Rattle.std.specs.Prelude.{◌≡◌, ℕ, ◌+◌, ◌<◌, ◌≤◌, true, List, length, Some, None, ◌≢◌, slice_index_or, slice_set, refl}
+use Rattle.std.proofs.Common.{sym, subst, ⊎_elim, arith, length-set, get_or-set_same, get_or-set_other}
+use Rattle.std.proofs.lemmas.Bool.{cases_eq}
 use Rattle.std.proofs.lemmas.Bool.Decides.{nat_tests}
 use Rattle.keeper.specs.declared.version.Version.{Version}
 use Rattle.keeper.specs.declared.stage.Stage.{Stage}
 use Rattle.keeper.specs.declared.stage.Stage.TheVariants.{Idle, Opening, Open, Offering, Offered, Closing}
 use Rattle.keeper.specs.Totals.{total}
-use Rattle.keeper.specs.Stages.{named, engaged, uses}
-use Rattle.keeper.specs.Meaning.{is_serial, same, version}
-use Rattle.keeper.proofs.Totals.{total_set, total_at}
+use Rattle.keeper.specs.Stages.{uses}
+use Rattle.keeper.specs.Meaning.{is_serial, same}
+use Rattle.keeper.proofs.Totals.{total_set}
 use Rattle.counting.specs.declared.rows.Row.{Row}
-use Rattle.counting.specs.declared.rows.Row.TheVariants.{Empty, Held}
-use Rattle.counting.specs.State.{State, Sized, Filled, Counted, on_row, used_by, steady, holds, empty, first}
-use Rattle.counting.specs.Moves.{stage_at, row_at, put, both}
+use Rattle.counting.specs.declared.rows.Row.TheVariants.{Empty}
+use Rattle.counting.specs.State.{State, Sized, Filled, Counted, on_row, used_by, steady}
+use Rattle.counting.specs.Moves.{stage_at, row_at, put}
 
 pub record Good (v : State) : Type 0 where
   pub sized : Sized v

@@ -1,27 +1,25 @@
 -- The meaning of a state that holds what always holds: its laws, and what each move does to it.
-use Rattle.std.specs.Prelude.{◌≡◌, ℕ, zero, suc, ◌+◌, ◌-◌, ◌<◌, ◌≤◌, Bool, true, false, cond, not, ◌&&◌, ◌⊎◌, List, [], ◌∷◌, map, length, get_or, set, Some, None, Option, ◌==◌, ◌≢◌, slice_index_or, slice_set, refl}
-use Rattle.std.proofs.Common.{sym, ap, ◌∙◌, subst, inl, inr, ⊎_elim, arith, length-set, get_or-set_same, get_or-set_other}
+use Rattle.std.specs.Prelude.{◌≡◌, ℕ, zero, suc, ◌+◌, ◌<◌, ◌≤◌, Bool, true, false, cond, List, [], ◌∷◌, map, length, get_or, set, Some, None, Option, ◌==◌, ◌≢◌, slice_index_or, slice_set, refl}
+use Rattle.std.proofs.Common.{sym, ap, ◌∙◌, subst, inl, ⊎_elim, arith, length-set, get_or-set_same, get_or-set_other}
 use Rattle.std.proofs.lemmas.List.{length-map, get_or_past, map-set}
-use Rattle.std.proofs.lemmas.Bool.{cases_eq, cases_lt, eq-eqb, ne_eqb, eqb-true, false≢true}
+use Rattle.std.proofs.lemmas.Bool.{cases_eq, cases_lt, eqb-true, false≢true}
 use Rattle.std.proofs.lemmas.Bool.Decides.{nat_tests}
 use Rattle.keeper.specs.declared.version.Version.{Version}
 use Rattle.keeper.specs.declared.stage.Stage.{Stage}
 use Rattle.keeper.specs.declared.stage.Stage.TheVariants.{Idle, Opening, Open, Offering, Offered, Closing}
 use Rattle.keeper.specs.Totals.{total}
 use Rattle.keeper.specs.Stages.{named, has, engaged, uses}
-use Rattle.keeper.specs.Meaning.{Meaning, Laws, Paced, is_serial, same, version, root_at, times, stage_of, left_of}
-use Rattle.keeper.specs.Effects.{Begun, moved, Frame, Unmoved, OpensOn, Accepts, Stales, Leaves, HandsOut, StepDone, Openable}
-use Rattle.keeper.specs.declared.outcome.Outcome.{Outcome}
+use Rattle.keeper.specs.Meaning.{Meaning, Laws, Paced, is_serial, same, version, root_at, left_of}
+use Rattle.keeper.specs.Effects.{Begun, Frame, StepDone}
 use Rattle.keeper.specs.declared.outcome.Outcome.TheVariants.{Opened, Accepted, Stale, Nothing, HandedOut}
 use Rattle.keeper.proofs.Totals.{total_set, total_at, get_d_map}
 use Rattle.counting.specs.declared.rows.Row.{Row}
 use Rattle.counting.specs.declared.rows.Row.TheVariants.{Empty, Held}
-use Rattle.counting.specs.State.{State, on_row, used_by, steady, holds, empty, first}
+use Rattle.counting.specs.State.{State, on_row, steady, holds, empty, first}
 use Rattle.counting.specs.Moves.{kept_of, pace, meaning_of, stage_at, row_at, place, put, both, raised, lowered, count, root_in, opening, open_ends, accepts, offer_ends, offer_answers, last_one, close_ends, close_answers}
-use Rattle.counting.specs.Firsts.{first_passes, first_found}
-use Rattle.counting.specs.Crowd.{unheld}
+use Rattle.counting.specs.Firsts.{first_passes}
 use Rattle.counting.specs.Good.{Good}
-use Rattle.counting.specs.Steps.{current_held, used_held, placed, placed_holds, placed_counts, room, unbound, emptied, closing_held, closing_counted}
+use Rattle.counting.specs.Steps.{current_held, used_held, placed, placed_holds, placed_counts, room, unbound, emptied, closing_held}
 
 pub total_kept : (f : Version → ℕ) (rs : List Row) → total f (kept_of rs) ≡ total (on_row f) rs
 total_kept f [] = refl

@@ -1,11 +1,10 @@
 -- What each call does to the counting keeper's state, exactly, and what that state means.
-use Rattle.std.specs.Prelude.{◌≡◌, ℕ, ◌+◌, ◌-◌, ◌<◌, ◌≤◌, Bool, true, false, cond, not, ◌&&◌, List, [], ◌∷◌, map, replicate, Some, None, ◌==◌, slice_index_or, slice_set}
+use Rattle.std.specs.Prelude.{ℕ, ◌+◌, ◌-◌, Bool, true, false, cond, not, ◌&&◌, List, [], ◌∷◌, map, replicate, ◌==◌, slice_index_or, slice_set}
 use Rattle.keeper.specs.declared.version.Version.{Version}
 use Rattle.keeper.specs.declared.stage.Stage.{Stage}
 use Rattle.keeper.specs.declared.stage.Stage.TheVariants.{Idle, Opening, Open, Offering, Offered, Closing}
 use Rattle.keeper.specs.declared.outcome.Outcome.{Outcome}
 use Rattle.keeper.specs.declared.outcome.Outcome.TheVariants.{GoesOn, Opened, Accepted, Stale, Nothing, HandedOut}
-use Rattle.keeper.specs.Stages.{serial_of}
 use Rattle.keeper.specs.Meaning.{Meaning, version}
 use Rattle.counting.specs.declared.rows.Row.{Row}
 use Rattle.counting.specs.declared.rows.Row.TheVariants.{Empty, Held}

@@ -1,7 +1,7 @@
 -- The three ends of an operation keep what always holds.
-use Rattle.std.specs.Prelude.{◌≡◌, ℕ, zero, suc, ◌+◌, ◌-◌, ◌<◌, ◌≤◌, Bool, true, false, cond, not, ◌&&◌, ◌⊎◌, List, [], ◌∷◌, length, Some, None, Option, ◌≢◌, slice_set, refl}
-use Rattle.std.proofs.Common.{sym, ap, ◌∙◌, subst, inl, inr, ⊎_elim, arith}
-use Rattle.std.proofs.lemmas.Bool.{cases_eq, eq-eqb, ne_eqb, eqb-true, true≢false, false≢true, both_ways}
+use Rattle.std.specs.Prelude.{◌≡◌, ℕ, ◌+◌, ◌<◌, ◌≤◌, Bool, true, false, cond, List, [], ◌∷◌, length, Some, None, ◌≢◌, slice_set, refl}
+use Rattle.std.proofs.Common.{sym, ap, ◌∙◌, subst, ⊎_elim, arith}
+use Rattle.std.proofs.lemmas.Bool.{cases_eq, ne_eqb, eqb-true, false≢true}
 use Rattle.std.proofs.lemmas.Bool.Decides.{nat_tests}
 use Rattle.keeper.specs.declared.version.Version.{Version}
 use Rattle.keeper.specs.declared.stage.Stage.{Stage}
@@ -13,10 +13,10 @@ use Rattle.keeper.proofs.Totals.{total_set, total_at}
 use Rattle.counting.specs.declared.rows.Row.{Row}
 use Rattle.counting.specs.declared.rows.Row.TheVariants.{Empty, Held}
 use Rattle.counting.specs.State.{State, on_row, used_by, steady, holds, empty, first}
-use Rattle.counting.specs.Moves.{stage_at, row_at, place, put, both, raised, lowered, count, opening, open_ends, accepts, last_one, close_ends}
+use Rattle.counting.specs.Moves.{stage_at, row_at, place, both, raised, lowered, count, opening, open_ends, accepts, last_one, close_ends}
 use Rattle.counting.specs.Firsts.{first_passes, first_found}
 use Rattle.counting.specs.Crowd.{unheld, crowd, rows_fill, vacancy}
-use Rattle.counting.specs.Good.{Good, put_good, changed_good}
+use Rattle.counting.specs.Good.{Good, changed_good}
 
 -- a row of the version is a row of its serial
 same_serial : (v : Version) (rs : List Row) → total (on_row (same v)) rs ≤ total (on_row (is_serial v.serial)) rs

@@ -1,5 +1,5 @@
 -- A walk over programs that looks for one that is not idle.
-use Rattle.std.proofs.Common.{◌≡◌, ℕ, zero, suc, ◌<◌, true, false, sym, ap, ◌∙◌, ⊎_elim, arith}
+use Rattle.std.proofs.Common.{◌≡◌, ℕ, zero, suc, ◌<◌, false, sym, ap, ◌∙◌, ⊎_elim, arith}
 use Rattle.std.proofs.lemmas.Bool.{and_left, and_right, cases_eq}
 use Rattle.keeper.specs.Stages.{idle}
 use Rattle.keeper.specs.Meaning.{Meaning, stage_of}

@@ -1,5 +1,5 @@
 -- A cell that a build fills is one of the cells.
-use Rattle.std.proofs.Common.{◌≡◌, ℕ, ◌<◌, Bool, true, false, cond, ◌&&◌, eqb, ltb, List, length, Ok, Err, Result, refl, arith}
+use Rattle.std.proofs.Common.{◌≡◌, ℕ, ◌<◌, Bool, true, false, cond, ◌&&◌, eqb, ltb, List, length, Ok, Err, refl, arith}
 use Rattle.std.proofs.lemmas.Bool.{ltb-true, and_parts}
 use Rattle.cells_theory.specs.declared.cell.Field.{Field}
 use Rattle.cells_theory.specs.Memory.{Memory, none, no_free_cell, damaged}

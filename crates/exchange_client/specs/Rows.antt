@@ -2,7 +2,6 @@
 use Rattle.std.specs.Prelude.{◌≡◌, ℕ, ◌+◌, List, [], ◌∷◌, ◌++◌, Ok, Err, Result}
 use Rattle.keeper.specs.declared.fault.Fault.{Fault}
 use Rattle.exchange_theory.specs.declared.calls.Call.{Call}
-use Rattle.exchange_theory.specs.declared.calls.Answer.{Answer}
 use Rattle.exchange_theory.specs.World.{World}
 use Rattle.exchange_theory.specs.History.{Event, Reached}
 use Rattle.exchange_theory.specs.Promises.{Promises}

@@ -1,11 +1,10 @@
 -- The cells hold what the run tells after a publish, a sweep and a build.
-use Rattle.std.proofs.Common.{◌≡◌, ℕ, zero, suc, ◌+◌, ◌*◌, ◌<◌, ◌≤◌, Bool, true, false, cond, ◌&&◌, eqb, ltb, leb, ◌⊎◌, List, [], ◌∷◌, length, get_or, set, Some, None, Ok, Err, Option, sym, refl, ap, ◌∙◌, subst, inl, inr, ⊎_elim, arith}
+use Rattle.std.proofs.Common.{◌≡◌, ℕ, ◌+◌, ◌*◌, ◌<◌, cond, ◌&&◌, eqb, ltb, leb, List, ◌∷◌, length, get_or, set, Some, None, Ok, Option, sym, refl, ap, ◌∙◌, subst, ⊎_elim, arith}
 use Rattle.std.proofs.lemmas.List.{length-set, get_or-set_same, get_or-set_other}
 use Rattle.std.proofs.lemmas.Bool.{cases_eq, cond_both}
 use Rattle.keeper.specs.declared.version.Version.{Version}
 use Rattle.keeper.specs.declared.stage.Stage.{Stage}
-use Rattle.keeper.specs.declared.stage.Stage.TheVariants.{Idle, Opening, Open, Offering, Offered, Closing}
-use Rattle.keeper.specs.Totals.{total}
+use Rattle.keeper.specs.declared.stage.Stage.TheVariants.{Offering, Closing}
 use Rattle.keeper.specs.Stages.{serial_of}
 use Rattle.keeper.specs.Meaning.{Meaning, Laws, stage_of, times as times_kept, root_at}
 use Rattle.keeper.specs.Effects.{PublishDone}
@@ -13,25 +12,25 @@ use Rattle.keeper.proofs.Totals.{total_set}
 use Rattle.cells_theory.specs.declared.cell.Cell.{Cell}
 use Rattle.cells_theory.specs.declared.cell.Field.{Field}
 use Rattle.cells_theory.specs.declared.cell.Field.TheVariants as field
-use Rattle.cells_theory.specs.Memory.{Memory, cell, cell_at, count_at, link_at, fields_at, nth}
+use Rattle.cells_theory.specs.Memory.{Memory, cell_at, count_at, fields_at, nth}
 use Rattle.cells_theory.specs.LetGo.{lowered, let_go, let_go_field, let_go_four}
 use Rattle.cells_theory.specs.Build.{raise, raise_field, raise_four, build_answer, build_memory, build_leaves}
 use Rattle.cells_theory.specs.Sweep.{sweep_memory, unlink}
-use Rattle.cells_theory.specs.Trees.{Tree, empty, number, node, Stands, Reaches}
+use Rattle.cells_theory.specs.Trees.{Tree, node, Stands}
 use Rattle.cells_theory.specs.Sound.{times, Sound}
-use Rattle.cells_theory.specs.Promises.{Live, LiveFields, BuildKeeps, SweepKeeps}
+use Rattle.cells_theory.specs.Promises.{Live, LiveFields}
 use Rattle.cells_theory.proofs.Counts.{sound_like, let_go_sound, let_go_fields}
 use Rattle.cells_theory.proofs.Frames.{kept_stands, kept_reaches}
 use Rattle.cells_theory.proofs.Reaching.{live_used, live_waits_not}
 use Rattle.cells_theory.proofs.Building.{build_promises}
 use Rattle.cells_theory.proofs.Sweeping.{sweep_promises}
-use Rattle.exchange_theory.specs.World.{World, reading_at, building_at, memory_of, keeping, building, storing, leaving, offering, let_go_place}
+use Rattle.exchange_theory.specs.World.{World, building_at, memory_of, keeping, building, storing, leaving, offering, let_go_place}
 use Rattle.exchange_theory.specs.Building.{placed, first_waiting}
 use Rattle.exchange_theory.specs.Story.{at, at_place}
 use Rattle.exchange_theory.specs.Promises.{names}
-use Rattle.exchange_theory.proofs.Meant.{opened_at, at_same, at_other, begun_stage, begun_others, begun_frame}
+use Rattle.exchange_theory.proofs.Meant.{opened_at, at_same, at_other, begun_stage, begun_others}
 use Rattle.exchange_theory.proofs.Naming.{name_by, names_are, on_place}
-use Rattle.exchange_theory.proofs.Held.{Shaped, Stood, Noted, Held, Stays, stood_stays, stood_moves, same_versions, sound_keeps, shaped_keeps}
+use Rattle.exchange_theory.proofs.Held.{Shaped, Held, Stays, stood_stays, stood_moves, same_versions, sound_keeps}
 
 -- no cell comes or goes
 pub let_go_length : (c : ℕ) (m : Memory) → length (let_go c m).cells ≡ length m.cells

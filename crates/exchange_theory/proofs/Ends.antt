@@ -1,29 +1,27 @@
 -- The cells hold what the run tells after a publish is accepted, a version is handed out, and a close.
-use Rattle.std.proofs.Common.{◌≡◌, ℕ, zero, suc, ◌+◌, ◌*◌, ◌<◌, ◌≤◌, Bool, true, false, cond, ◌⊎◌, List, [], ◌∷◌, length, get_or, set, Some, None, Option, sym, refl, ap, ◌∙◌, subst, inl, inr, ⊎_elim, arith}
+use Rattle.std.proofs.Common.{◌≡◌, ℕ, zero, suc, ◌+◌, ◌*◌, ◌<◌, ◌≤◌, List, length, get_or, set, Some, None, Option, sym, refl, ap, ◌∙◌, subst, ⊎_elim, arith}
 use Rattle.std.proofs.lemmas.List.{length-set, get_or-set_same, get_or-set_other}
-use Rattle.std.proofs.lemmas.Bool.{cases_eq, cases_lt}
+use Rattle.std.proofs.lemmas.Bool.{cases_eq}
 use Rattle.keeper.specs.declared.version.Version.{Version}
-use Rattle.keeper.specs.declared.stage.Stage.{Stage}
-use Rattle.keeper.specs.declared.stage.Stage.TheVariants.{Idle, Opening, Open, Offering, Offered, Closing}
-use Rattle.keeper.specs.Totals.{total}
+use Rattle.keeper.specs.declared.stage.Stage.TheVariants.{Idle, Offering, Offered, Closing}
 use Rattle.keeper.specs.Stages.{serial_of}
-use Rattle.keeper.specs.Meaning.{Meaning, Laws, version, stage_of, times as times_kept, root_at}
+use Rattle.keeper.specs.Meaning.{Meaning, Laws, stage_of, times as times_kept, root_at}
 use Rattle.keeper.specs.Effects.{Frame, Accepts, HandsOut, CloseDone}
 use Rattle.keeper.proofs.Totals.{total_set}
 use Rattle.cells_theory.specs.declared.cell.Field.TheVariants as field
 use Rattle.cells_theory.specs.Memory.{Memory, fields_at}
 use Rattle.cells_theory.specs.LetGo.{let_go}
-use Rattle.cells_theory.specs.Trees.{Tree, empty, number, node, Stands, Reaches}
-use Rattle.cells_theory.specs.Sound.{times, Sound}
+use Rattle.cells_theory.specs.Trees.{Tree, empty, Stands, Reaches}
+use Rattle.cells_theory.specs.Sound.{Sound}
 use Rattle.cells_theory.proofs.Counts.{sound_like, let_go_sound, let_go_fields}
 use Rattle.cells_theory.proofs.Frames.{kept_stands, kept_reaches}
-use Rattle.exchange_theory.specs.World.{World, reading_at, building_at, memory_of, keeping, reading, building, storing, leaving, closing, emptied, let_go_place, let_go_places}
+use Rattle.exchange_theory.specs.World.{World, memory_of, keeping, reading, building, storing, closing, emptied, let_go_places}
 use Rattle.exchange_theory.specs.Building.{placed}
 use Rattle.exchange_theory.specs.Story.{at, at_place}
 use Rattle.exchange_theory.specs.Promises.{names}
 use Rattle.exchange_theory.proofs.Meant.{opened_at, at_same, at_other, begun_stage, begun_others, rebinds_opened}
 use Rattle.exchange_theory.proofs.Naming.{name_by, is_root, names_are, root_added, root_new, times_added, times_new, on_place}
-use Rattle.exchange_theory.proofs.Held.{Shaped, Stood, Noted, Held, Stays, stood_stays, stood_moves, same_versions, shaped_keeps, opened_has, rebinds_offering, rebinds_closing, rest_offers_not, rest_closes_not}
+use Rattle.exchange_theory.proofs.Held.{Held, Stays, stood_stays, stood_moves, shaped_keeps, opened_has, rebinds_offering, rebinds_closing, rest_offers_not, rest_closes_not}
 use Rattle.exchange_theory.proofs.Changes.{let_go_length, place_length, place_fields, place_sound, shaped_stores, shaped_builds}
 
 -- memory whose fields are as they were

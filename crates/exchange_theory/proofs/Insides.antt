@@ -1,5 +1,5 @@
 -- Rows of places and of numbers below a limit: reading and writing one of them.
-use Rattle.std.proofs.Common.{◌≡◌, ℕ, zero, suc, ◌+◌, ◌*◌, ◌<◌, Bool, true, ltb, List, [], ◌∷◌, get_or, set, replicate, Some, None, Option, refl}
+use Rattle.std.proofs.Common.{◌≡◌, ℕ, zero, suc, ◌+◌, ◌*◌, ◌<◌, true, ltb, List, [], ◌∷◌, get_or, set, replicate, Some, None, Option, refl}
 use Rattle.std.proofs.lemmas.Bool.{ltb-true, lt-ltb, and_parts, and_from}
 use Rattle.exchange_theory.specs.Inside.{below, inside, under}
 use Rattle.exchange_theory.specs.World.{emptied}

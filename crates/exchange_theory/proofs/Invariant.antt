@@ -1,7 +1,7 @@
 -- In every reached world the keeper means, and the cells hold, what the run tells.
-use Rattle.std.proofs.Common.{◌≡◌, ℕ, zero, suc, ◌+◌, ◌*◌, ◌<◌, ◌≤◌, Bool, true, false, cond, ◌&&◌, eqb, ltb, leb, ◌⊎◌, List, [], ◌∷◌, length, get_or, set, replicate, Some, None, Ok, Err, Option, Result, sym, refl, ap, ◌∙◌, subst, inl, inr, ⊎_elim, arith}
+use Rattle.std.proofs.Common.{◌≡◌, ℕ, zero, suc, ◌+◌, ◌*◌, ◌<◌, Bool, true, false, cond, ◌&&◌, eqb, ltb, leb, List, [], ◌∷◌, length, get_or, set, replicate, Some, None, Ok, Option, Result, sym, refl, ap, ◌∙◌, subst, ⊎_elim, arith}
 use Rattle.std.proofs.lemmas.List.{length-set}
-use Rattle.std.proofs.lemmas.Bool.{cases_eq, cases_lt, eq-eqb, ne_eqb, eqb-true, leb-true, ltb-true, and_parts, cond_both}
+use Rattle.std.proofs.lemmas.Bool.{cases_eq, cases_lt, eq-eqb, eqb-true, leb-true, ltb-true, and_parts, cond_both}
 use Rattle.keeper.specs.declared.version.Version.{Version}
 use Rattle.keeper.specs.declared.stage.Stage.{Stage}
 use Rattle.keeper.specs.declared.stage.Stage.TheVariants.{Idle, Opening, Open, Offering, Offered, Closing}
@@ -11,16 +11,16 @@ use Rattle.keeper.specs.declared.fault.Refusal.TheVariants.{PlaceEmpty}
 use Rattle.keeper.specs.declared.fault.Fault.{Fault}
 use Rattle.keeper.specs.Totals.{total}
 use Rattle.keeper.specs.Stages.{has, serial_of}
-use Rattle.keeper.specs.Meaning.{Meaning, Laws, version, stage_of, is_serial, times as times_kept, copies, root_at}
-use Rattle.keeper.specs.Effects.{StepDone, OpenDone, step_fault, publish_fault, open_fault, close_fault, root_answer}
+use Rattle.keeper.specs.Meaning.{Meaning, Laws, version, stage_of, is_serial, times as times_kept, root_at}
+use Rattle.keeper.specs.Effects.{step_fault, publish_fault, open_fault, close_fault, root_answer}
 use Rattle.keeper.proofs.Recall.{first_kept, one_root}
 use Rattle.cells_theory.specs.declared.cell.Field.{Field}
 use Rattle.cells_theory.specs.declared.cell.Field.TheVariants as field
-use Rattle.cells_theory.specs.Memory.{Memory, memory, same, field_at, nth, none}
+use Rattle.cells_theory.specs.Memory.{same, field_at}
 use Rattle.cells_theory.specs.Look.{field_answer}
 use Rattle.cells_theory.specs.Make.{fresh_leaves}
-use Rattle.cells_theory.specs.Trees.{Tree, empty, number, node, child, Stands, Reaches, here}
-use Rattle.cells_theory.specs.Sound.{times, Sound}
+use Rattle.cells_theory.specs.Trees.{Tree, empty, node, child, Stands, Reaches, here}
+use Rattle.cells_theory.specs.Sound.{times}
 use Rattle.cells_theory.specs.Promises.{Live, LiveFields}
 use Rattle.cells_theory.proofs.Counts.{sound_like}
 use Rattle.cells_theory.proofs.Frames.{onward}
@@ -32,22 +32,22 @@ use Rattle.exchange_theory.specs.declared.calls.Source.TheVariants as source
 use Rattle.exchange_theory.specs.declared.calls.Call.{Call}
 use Rattle.exchange_theory.specs.declared.calls.Call.TheVariants.{Open as CallOpen, Publish, Close, Step, Root, Down, Look, Build, Sweep}
 use Rattle.exchange_theory.specs.declared.calls.Answer.{Answer}
-use Rattle.exchange_theory.specs.World.{World, reading_at, building_at, memory_of, keeping, reading, building}
+use Rattle.exchange_theory.specs.World.{World, reading_at, building_at, memory_of, keeping}
 use Rattle.exchange_theory.specs.Table.{allows}
 use Rattle.exchange_theory.specs.Order.{filled, passing, fault_of, refuse}
-use Rattle.exchange_theory.specs.Keeping.{Opens, Publishes, Closes, Steps, OpenBegins, PublishBegins, CloseBegins, StepTakes, settles}
+use Rattle.exchange_theory.specs.Keeping.{Opens, Publishes, Closes, Steps, OpenBegins, CloseBegins, StepTakes, settles}
 use Rattle.exchange_theory.specs.Reading.{Roots, Downs, Looks, TakesRoot, Descends, root_fault, down_fault}
 use Rattle.exchange_theory.specs.Building.{Builds, Sweeps, BuildsCell, src, ranged, all_ranged, all_given, placed, field_from, fields_from, new_cell}
 use Rattle.exchange_theory.specs.Did.{Did}
 use Rattle.exchange_theory.specs.Make.{Fresh}
-use Rattle.exchange_theory.specs.Story.{Story, resting, start, at, at_place, calls_close, reads, builds, tell, tell_step, tree_of, sourced, tree_from}
-use Rattle.exchange_theory.specs.History.{Event, event, Reached, made, after, story}
-use Rattle.exchange_theory.specs.Promises.{cells_in, names}
+use Rattle.exchange_theory.specs.Story.{Story, start, at, at_place, calls_close, reads, builds, tell, tell_step, tree_of, sourced, tree_from}
+use Rattle.exchange_theory.specs.History.{Event, Reached, made, after, story}
+use Rattle.exchange_theory.specs.Promises.{names}
 use Rattle.exchange_theory.proofs.Accepted.{Admitted, admitted, by_begun, by_stepped, by_done, by_shown, by_swept}
-use Rattle.exchange_theory.proofs.Meant.{opened_at, task_at, MeantBy, kept_low, begun_stage, begun_frame, rebinds_opened}
-use Rattle.exchange_theory.proofs.Told.{opens_idle, publishes_open, reached_laws, Ready, ready, meant_start, meant_call}
+use Rattle.exchange_theory.proofs.Meant.{opened_at, MeantBy, kept_low, begun_stage, begun_frame, rebinds_opened}
+use Rattle.exchange_theory.proofs.Told.{opens_idle, publishes_open, ready, meant_start, meant_call}
 use Rattle.exchange_theory.proofs.Naming.{name_by, is_root, names_are}
-use Rattle.exchange_theory.proofs.Held.{Shaped, Stood, Noted, Held, HeldBy, Quiet, held_quiet, quiet_moves, rest_offers_not, rest_closes_not, root_told, read_live, built_live, held_reads, rebinds_offering, rebinds_closing}
+use Rattle.exchange_theory.proofs.Held.{Held, HeldBy, held_quiet, quiet_moves, rest_offers_not, rest_closes_not, root_told, read_live, built_live, held_reads, rebinds_offering, rebinds_closing}
 use Rattle.exchange_theory.proofs.Changes.{held_publish, held_sweep, held_build}
 use Rattle.exchange_theory.proofs.Ends.{held_accepted, held_out, held_closed}
 

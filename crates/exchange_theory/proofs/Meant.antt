@@ -1,5 +1,5 @@
 -- What the keeper means is what the run tells: serials, stages and steps.
-use Rattle.std.proofs.Common.{◌≡◌, ℕ, zero, suc, ◌+◌, ◌<◌, ◌≤◌, Bool, true, false, cond, eqb, ltb, ◌⊎◌, List, [], ◌∷◌, length, get_or, set, Some, None, Ok, Err, Option, Result, sym, refl, ap, ◌∙◌, subst, inl, inr, ⊎_elim, arith}
+use Rattle.std.proofs.Common.{◌≡◌, ℕ, ◌+◌, ◌<◌, ◌≤◌, Bool, true, false, cond, List, length, Some, None, Option, sym, refl, ap, ◌∙◌, subst, inl, ⊎_elim, arith}
 use Rattle.std.proofs.lemmas.List.{get_or-set_same, get_or-set_other}
 use Rattle.std.proofs.lemmas.Bool.{cases_eq, cases_lt, eq-eqb, ne_eqb}
 use Rattle.keeper.specs.declared.version.Version.{Version}
@@ -10,9 +10,7 @@ use Rattle.keeper.specs.declared.outcome.Outcome.{Outcome}
 use Rattle.keeper.specs.declared.outcome.Outcome.TheVariants.{GoesOn, Opened, Accepted, Stale, Nothing, HandedOut}
 use Rattle.keeper.specs.Stages.{serial_of}
 use Rattle.keeper.specs.Meaning.{Meaning, Laws, version, stage_of, left_of, is_serial, times, root_at}
-use Rattle.keeper.specs.Effects.{Begun, moved, Rebinds, Openable, Frame, Ends, StepDone, OpenDone, PublishDone, CloseDone}
-use Rattle.exchange_theory.specs.declared.column.Column.TheVariants as column
-use Rattle.exchange_theory.specs.Table.{allows}
+use Rattle.keeper.specs.Effects.{Begun, Rebinds, Frame, StepDone, OpenDone, PublishDone, CloseDone}
 use Rattle.exchange_theory.specs.Story.{Story, Task, resting, opening, publishing, closing, at, calls_open, calls_publish, calls_close, tell_step}
 use Rattle.exchange_theory.specs.Promises.{allowance}
 

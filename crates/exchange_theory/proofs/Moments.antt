@@ -1,6 +1,6 @@
 -- From serials to moments: a serial from the one that was current at a program's call of open up to the present one was current at a
 -- moment between the two.
-use Rattle.std.proofs.Common.{◌≡◌, ℕ, ◌+◌, ◌≤◌, false, cond, ◌⊎◌, List, [], ◌∷◌, Some, None, Ok, Err, Option, Result, sym, refl, ap, ◌∙◌, inl, inr, ⊎_elim, arith}
+use Rattle.std.proofs.Common.{◌≡◌, ℕ, ◌+◌, ◌≤◌, false, cond, ◌⊎◌, List, [], ◌∷◌, Some, None, Ok, Err, Result, sym, refl, ap, ◌∙◌, inl, inr, ⊎_elim, arith}
 use Rattle.std.proofs.lemmas.Bool.{cases_eq, eq-eqb, ne_eqb}
 use Rattle.keeper.specs.declared.stage.Stage.{Stage}
 use Rattle.keeper.specs.declared.stage.Stage.TheVariants.{Idle, Opening, Open, Offering, Offered, Closing}
@@ -17,8 +17,8 @@ use Rattle.exchange_theory.specs.declared.calls.Answer.TheVariants as answer
 use Rattle.exchange_theory.specs.Story.{Story, tell, tell_step, tell_answer}
 use Rattle.exchange_theory.specs.History.{Event, Reached, story}
 use Rattle.exchange_theory.specs.Moments.{Throughout, is_open_of, CurrentSinceOpen, at_last, earlier, OpenedAtMoment, AsTold}
-use Rattle.exchange_theory.specs.Promises.{Always, Came, OpenedWasCurrent}
-use Rattle.exchange_theory.proofs.Meant.{opened_at, MeantBy}
+use Rattle.exchange_theory.specs.Promises.{Always, OpenedWasCurrent}
+use Rattle.exchange_theory.proofs.Meant.{opened_at}
 use Rattle.exchange_theory.proofs.Told.{meant}
 use Rattle.exchange_theory.proofs.Runs.{past}
 

@@ -1,5 +1,5 @@
 -- The promises over whole runs.
-use Rattle.std.proofs.Common.{◌≡◌, ℕ, ◌+◌, ◌*◌, ◌<◌, ◌≤◌, List, [], ◌∷◌, Ok, Err, Result, sym, refl, ap, ◌∙◌, subst, arith}
+use Rattle.std.proofs.Common.{◌≡◌, List, [], ◌∷◌, Ok, Err, Result, sym, refl, ap, subst, arith}
 use Rattle.keeper.specs.declared.fault.Fault.{Fault}
 use Rattle.keeper.specs.declared.version.Declared.{Declared}
 use Rattle.keeper.specs.Meaning.{Meaning, Laws}
@@ -15,12 +15,11 @@ use Rattle.exchange_theory.specs.Reading.{Roots, Downs, Looks}
 use Rattle.exchange_theory.specs.Building.{Builds, Sweeps}
 use Rattle.exchange_theory.specs.Did.{Did}
 use Rattle.exchange_theory.specs.Make.{Fresh, Makes}
-use Rattle.exchange_theory.specs.Story.{Story}
 use Rattle.exchange_theory.specs.History.{Event, event, Reached, made, after, story}
 use Rattle.exchange_theory.specs.Promises.{names, Always, OpenedWasCurrent, LookIsTrue, HandedOutReplaced, StepInTime, PublishDecided, NotDamaged, Promises, BeginsRun, GoesOn}
 use Rattle.exchange_theory.proofs.Accepted.{by_begun, by_stepped, by_done, by_shown, by_swept}
 use Rattle.exchange_theory.proofs.Told.{told_opened, told_handed_out, told_step, told_publish, told_unused, told_gone, told_unended}
-use Rattle.exchange_theory.proofs.Invariant.{Inv, invariant}
+use Rattle.exchange_theory.proofs.Invariant.{invariant}
 use Rattle.exchange_theory.proofs.Sure.{told_sure, told_look, names_few}
 
 -- no call changes the declared steps

@@ -6,16 +6,14 @@ use Rattle.keeper.specs.declared.fault.Refusal.TheVariants.{NoProgram, WrongMemo
 use Rattle.keeper.specs.declared.fault.Layer.{Layer}
 use Rattle.keeper.specs.declared.fault.Layer.TheVariants as layer
 use Rattle.keeper.specs.declared.fault.Fault.{Fault}
-use Rattle.keeper.specs.declared.version.Declared.{Declared}
 use Rattle.keeper.specs.Stages.{has, idle, opened, closable, moving}
 use Rattle.keeper.specs.Refusals.{fault_by, fault, unless}
-use Rattle.keeper.specs.Meaning.{Meaning, Laws, stage_of, root_at}
+use Rattle.keeper.specs.Meaning.{Meaning, Laws, stage_of}
 use Rattle.keeper.specs.Effects.{open_fault, publish_fault, close_fault, step_fault, root_answer, root_of}
 use Rattle.cells_theory.specs.declared.cell.Field.{Field}
 use Rattle.cells_theory.specs.declared.cell.Field.TheVariants as field
 use Rattle.cells_theory.specs.declared.shown.Shown.{Shown}
 use Rattle.cells_theory.specs.Memory.{damaged, no_free_cell, field_at}
-use Rattle.cells_theory.specs.Look.{field_answer}
 use Rattle.cells_theory.specs.Trees.{Tree, empty, number, node, Stands}
 use Rattle.cells_theory.specs.Promises.{shown_tree}
 use Rattle.cells_theory.proofs.Looking.{look_promises}
@@ -30,7 +28,7 @@ use Rattle.exchange_theory.specs.declared.calls.Answer.{Answer}
 use Rattle.exchange_theory.specs.declared.calls.Answer.TheVariants as answer
 use Rattle.exchange_theory.specs.World.{World, reading_at, building_at, memory_of}
 use Rattle.exchange_theory.specs.Table.{allows}
-use Rattle.exchange_theory.specs.Order.{own_fault, filled, passing, fault_of, refuse, sized, admits}
+use Rattle.exchange_theory.specs.Order.{filled, passing, fault_of, refuse, sized, admits}
 use Rattle.exchange_theory.specs.Keeping.{Opens, Publishes, Closes, Steps, open_refusal, publish_refusal, close_refusal, step_refusal}
 use Rattle.exchange_theory.specs.Reading.{Roots, Downs, Looks, root_fault, no_cell, down_fault, look_fault, root_refusal, down_refusal, look_refusal}
 use Rattle.exchange_theory.specs.Building.{Builds, Sweeps, all_ranged, all_given, placed, fields_from, new_cell, first_waiting, build_refusal, sweep_refusal}

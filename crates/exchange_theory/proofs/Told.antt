@@ -1,37 +1,34 @@
 -- What every run tells of serials and steps, since the keeper means it.
-use Rattle.std.proofs.Common.{◌≡◌, ℕ, zero, suc, ◌+◌, ◌<◌, ◌≤◌, Bool, true, false, cond, ◌&&◌, eqb, ltb, ◌⊎◌, List, [], ◌∷◌, length, get_or, Some, None, Ok, Err, Option, Result, sym, refl, ap, ◌∙◌, subst, inl, inr, ⊎_elim, arith}
+use Rattle.std.proofs.Common.{◌≡◌, ℕ, zero, suc, ◌<◌, Bool, true, false, cond, ◌&&◌, eqb, ltb, List, [], ◌∷◌, length, get_or, Some, None, Option, Result, sym, refl, ap, ◌∙◌, subst, ⊎_elim, arith}
 use Rattle.std.proofs.lemmas.List.{get_or_past}
 use Rattle.std.proofs.lemmas.Bool.{cases_eq, cases_lt, eqb-true, and_parts, ne_eqb}
 use Rattle.keeper.specs.declared.stage.Stage.{Stage}
 use Rattle.keeper.specs.declared.stage.Stage.TheVariants.{Idle, Opening, Open, Offering, Offered, Closing}
-use Rattle.keeper.specs.declared.version.Declared.{Declared}
-use Rattle.keeper.specs.declared.outcome.Outcome.{Outcome}
-use Rattle.keeper.specs.declared.outcome.Outcome.TheVariants.{GoesOn, Opened, Accepted, Stale, Nothing, HandedOut}
+use Rattle.keeper.specs.declared.outcome.Outcome.TheVariants.{Opened, Accepted, Stale, HandedOut}
 use Rattle.keeper.specs.declared.fault.Fault.{Fault}
 use Rattle.keeper.specs.Totals.{total}
 use Rattle.keeper.specs.Stages.{has, engaged, uses, named, idle, serial_of}
 use Rattle.keeper.specs.Refusals.{limits}
-use Rattle.keeper.specs.Meaning.{Meaning, Laws, Paced, stage_of, left_of, times, copies}
-use Rattle.keeper.specs.Effects.{StepDone, step_fault, publish_fault, open_fault, close_fault, root_answer}
+use Rattle.keeper.specs.Meaning.{Meaning, Laws, Paced, stage_of, left_of, times}
+use Rattle.keeper.specs.Effects.{step_fault, publish_fault, open_fault, close_fault, root_answer}
 use Rattle.keeper.proofs.Recall.{copies_times}
 use Rattle.exchange_theory.specs.declared.column.Column.TheVariants as column
 use Rattle.exchange_theory.specs.declared.calls.Call.{Call}
 use Rattle.exchange_theory.specs.declared.calls.Call.TheVariants.{Open as CallOpen, Publish, Close, Step, Root, Down, Look, Build, Sweep}
 use Rattle.exchange_theory.specs.declared.calls.Answer.{Answer}
-use Rattle.exchange_theory.specs.declared.calls.Answer.TheVariants as answer
 use Rattle.exchange_theory.specs.World.{World, building_at}
 use Rattle.exchange_theory.specs.Table.{allows}
 use Rattle.exchange_theory.specs.Order.{filled, passing, fault_of}
-use Rattle.exchange_theory.specs.Keeping.{Opens, Publishes, Closes, Steps, settles}
+use Rattle.exchange_theory.specs.Keeping.{Opens, Publishes, Closes, Steps}
 use Rattle.exchange_theory.specs.Reading.{Roots, Downs, Looks}
 use Rattle.exchange_theory.specs.Building.{Builds, Sweeps}
 use Rattle.exchange_theory.specs.Did.{Did}
 use Rattle.exchange_theory.specs.Make.{Fresh, idle_below, new_keeper, new_memory}
-use Rattle.exchange_theory.specs.Story.{Story, Task, resting, opening, publishing, closing, start, tell}
+use Rattle.exchange_theory.specs.Story.{Story, resting, start, tell}
 use Rattle.exchange_theory.specs.History.{Event, event, Reached, made, after, story}
-use Rattle.exchange_theory.specs.Promises.{allowance, Always, Came, OpenedWasCurrent, HandedOutReplaced, StepInTime, PublishDecided}
-use Rattle.exchange_theory.proofs.Accepted.{Admitted, admitted, by_begun, by_stepped, by_done, by_shown, by_swept, step_from}
-use Rattle.exchange_theory.proofs.Meant.{opened_at, task_at, one, Meant, MeantBy, meant_open, meant_publish, meant_close, meant_step, kept_low}
+use Rattle.exchange_theory.specs.Promises.{allowance, OpenedWasCurrent, HandedOutReplaced, StepInTime, PublishDecided}
+use Rattle.exchange_theory.proofs.Accepted.{admitted, by_begun, by_stepped, by_done, by_shown, by_swept, step_from}
+use Rattle.exchange_theory.proofs.Meant.{opened_at, task_at, one, MeantBy, meant_open, meant_publish, meant_close, meant_step, kept_low}
 
 pub total_find : {A : Type 0} (f : A → ℕ) (xs : List A) (d : A) → 0 < total f xs → (i : ℕ) × (i < length xs) × (0 < f (get_or xs i d))
 total_find f [] d h = absurd (omega arith)

@@ -1,5 +1,5 @@
 -- The calls that change cells: build and sweep.
-use Rattle.std.specs.Prelude.{◌≡◌, ℕ, ◌+◌, ◌*◌, Bool, true, ◌&&◌, List, [], ◌∷◌, length, is_some, Some, None, Ok, Err, Option, Result, nat_lt, slice_index_or, slice_set}
+use Rattle.std.specs.Prelude.{◌≡◌, ℕ, ◌+◌, ◌*◌, Bool, true, ◌&&◌, List, [], ◌∷◌, length, is_some, Some, None, Ok, Option, Result, nat_lt, slice_index_or, slice_set}
 use Rattle.keeper.specs.declared.fault.Refusal.TheVariants.{WrongMemory, PlaceEmpty}
 use Rattle.keeper.specs.declared.fault.Fault.{Fault}
 use Rattle.cells_theory.specs.declared.cell.Field.{Field}

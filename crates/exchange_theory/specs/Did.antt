@@ -1,5 +1,5 @@
 -- What a call did, with its answer: the relation of its own function, at the answer that this function gave.
-use Rattle.std.specs.Prelude.{ℕ, Bool, true, false, Ok, Err, Result}
+use Rattle.std.specs.Prelude.{Bool, true, false, Ok, Err, Result}
 use Rattle.keeper.specs.declared.outcome.Outcome.{Outcome}
 use Rattle.keeper.specs.declared.fault.Fault.{Fault}
 use Rattle.cells_theory.specs.declared.shown.Shown.{Shown}

@@ -1,5 +1,5 @@
 -- What is known of the moments of a run beside what is promised of every run. A moment follows the making or a call.
-use Rattle.std.specs.Prelude.{◌≡◌, ℕ, Bool, true, false, List, [], ◌∷◌, Some, None, Ok, Err, Option, Result, ◌==◌}
+use Rattle.std.specs.Prelude.{◌≡◌, ℕ, Bool, false, List, [], ◌∷◌, Some, Ok, Err, Result, ◌==◌}
 use Rattle.keeper.specs.declared.outcome.Outcome.TheVariants.{Opened}
 use Rattle.keeper.specs.declared.fault.Fault.{Fault}
 use Rattle.keeper.specs.Stages.{has}

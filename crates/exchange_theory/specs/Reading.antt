@@ -11,7 +11,7 @@ use Rattle.cells_theory.specs.Memory.{damaged}
 use Rattle.cells_theory.specs.Look.{field_answer, Looks as LooksAt}
 use Rattle.exchange_theory.specs.declared.column.Column.TheVariants as column
 use Rattle.exchange_theory.specs.World.{World, reading_at, reading}
-use Rattle.exchange_theory.specs.Order.{own_fault, filled, admits, Turns}
+use Rattle.exchange_theory.specs.Order.{own_fault, admits, Turns}
 
 -- a root is followed: as the keeper refuses to tell it, then 16 where it is N or more
 abbrev pub root_fault : ℕ → Result ℕ Fault → Option Fault

@@ -1,6 +1,6 @@
 -- From the exact state and answer of a call to what the interface says of it; and a call that is refused or carried out.
 -- S is the state of some keeper, of which `meaning` tells what it means.
-use Rattle.std.proofs.Common.{◌≡◌, Some, None, Ok, Err, Option, Result, sym, refl, ap, ◌∙◌, subst}
+use Rattle.std.proofs.Common.{◌≡◌, Some, None, Ok, Err, Option, Result, sym, refl, ap, subst}
 use Rattle.keeper.specs.declared.fault.Fault.{Fault}
 use Rattle.keeper.specs.Meaning.{Meaning}
 use Rattle.keeper.specs.Effects.{Acts, answer, settled}

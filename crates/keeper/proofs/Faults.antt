@@ -1,5 +1,5 @@
 -- Which call is refused, and with what.
-use Rattle.std.proofs.Common.{◌≡◌, ℕ, ◌<◌, ◌≤◌, Bool, true, false, not, eqb, ltb, Some, None, Ok, Err, Option, sym, refl, ap, ◌∙◌, arith}
+use Rattle.std.proofs.Common.{◌≡◌, ℕ, ◌<◌, ◌≤◌, Bool, true, false, not, eqb, ltb, Some, None, Ok, Option, refl, ap, ◌∙◌, arith}
 use Rattle.std.proofs.lemmas.Bool.{lt-ltb, le-ltb, ltb-true, eq-eqb, ne_eqb}
 use Rattle.keeper.specs.declared.fault.Refusal.{Refusal}
 use Rattle.keeper.specs.declared.fault.Refusal.TheVariants.{NoProgram, StageForbids, LastSerial}

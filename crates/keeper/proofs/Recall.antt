@@ -1,21 +1,18 @@
 -- Of an open among other programs' calls: its program stays opening, and each version that it may come to open was current at a
 -- moment since its call.
-use Rattle.std.proofs.Common.{◌≡◌, ℕ, zero, suc, ◌+◌, ◌<◌, ◌≤◌, Bool, true, false, cond, not, ◌&&◌, eqb, ltb, ◌⊎◌, List, [], ◌∷◌, ◌++◌, length, get_or, set, Some, None, Ok, Err, Option, Result, sym, refl, ap, ◌∙◌, subst, inl, inr, ⊎_elim, arith, length-set, get_or-set_other}
-use Rattle.std.proofs.lemmas.Bool.{cases_eq, cases_lt}
+use Rattle.std.proofs.Common.{◌≡◌, ℕ, ◌+◌, ◌<◌, ◌≤◌, Bool, true, false, cond, eqb, List, [], ◌∷◌, ◌++◌, Ok, Err, sym, refl, ap, ◌∙◌, subst, ⊎_elim, arith}
+use Rattle.std.proofs.lemmas.Bool.{cases_eq}
 use Rattle.std.proofs.lemmas.Bool.Decides.{nat_tests}
 use Rattle.keeper.specs.declared.version.Version.{Version}
 use Rattle.keeper.specs.declared.stage.Stage.{Stage}
-use Rattle.keeper.specs.declared.stage.Stage.TheVariants.{Idle, Opening, Open as OpenOn, Offering, Offered, Closing}
 use Rattle.keeper.specs.declared.outcome.Outcome.{Outcome}
 use Rattle.keeper.specs.declared.outcome.Outcome.TheVariants.{GoesOn, Opened, Accepted, Stale, Nothing, HandedOut}
-use Rattle.keeper.specs.declared.fault.Fault.{Fault}
 use Rattle.keeper.specs.declared.client.Action.{Action}
 use Rattle.keeper.specs.declared.client.Action.TheVariants.{Open, Publish, Close, Step}
-use Rattle.keeper.specs.Totals.{total, Added}
-use Rattle.keeper.specs.Stages.{has}
-use Rattle.keeper.specs.Meaning.{Meaning, Laws, version, stage_of, left_of, is_serial, same, times, copies, root_at, Paced}
-use Rattle.keeper.specs.Effects.{OpenDone, OpenSays, PublishSays, CloseSays, StepSays, StepDone, Rebinds, Openable, Frame, Ends, Unmoved, Begun, moved}
-use Rattle.keeper.specs.Course.{Course, here, after, MadeByOthers, none, more, Made, actor, others_of, turns}
+use Rattle.keeper.specs.Totals.{Added}
+use Rattle.keeper.specs.Meaning.{Meaning, Laws, version, same, times, copies, root_at}
+use Rattle.keeper.specs.Effects.{Ends, Begun}
+use Rattle.keeper.specs.Course.{Course, here, after, Made}
 
 -- a version that is kept has its serial kept
 pub copies_times : (v : Version) (xs : List Version) → copies v xs ≤ times v.serial xs

@@ -1,21 +1,20 @@
 -- A program that opens, through the calls of others and its own steps, to the end of its open.
-use Rattle.std.proofs.Common.{◌≡◌, ℕ, zero, suc, ◌+◌, ◌-◌, ◌<◌, ◌≤◌, Bool, true, false, cond, eqb, ltb, ◌≢◌, ◌⊎◌, List, [], ◌∷◌, ◌++◌, map, length, get_or, take, set, Some, None, Ok, Err, Option, Result, sym, refl, ap, ◌∙◌, subst, inl, inr, ⊎_elim, add-one, arith, get_or-set_other, get_or-set_same, Bor}
-use Rattle.std.proofs.lemmas.Bool.{cases_lt, cases_eq, eq-eqb, ne_eqb, lt-ltb}
+use Rattle.std.proofs.Common.{◌≡◌, ℕ, zero, suc, ◌+◌, ◌-◌, ◌<◌, ◌≤◌, cond, eqb, ◌≢◌, List, [], ◌∷◌, ◌++◌, length, get_or, take, Some, None, Ok, Err, Option, Result, sym, refl, ap, ◌∙◌, subst, inl, inr, ⊎_elim, add-one, arith, get_or-set_other, get_or-set_same, Bor}
+use Rattle.std.proofs.lemmas.Bool.{cases_lt, eq-eqb, ne_eqb, lt-ltb}
 use Rattle.std.proofs.lemmas.List.{take_more, get_or_past}
 use Rattle.keeper.specs.declared.version.Version.{Version}
 use Rattle.keeper.specs.declared.stage.Stage.{Stage}
-use Rattle.keeper.specs.declared.stage.Stage.TheVariants.{Idle, Opening, Open as OpenOn, Offering, Offered, Closing}
+use Rattle.keeper.specs.declared.stage.Stage.TheVariants.{Idle, Opening, Open as OpenOn, Offering, Closing}
 use Rattle.keeper.specs.declared.outcome.Outcome.{Outcome}
 use Rattle.keeper.specs.declared.outcome.Outcome.TheVariants.{GoesOn, Opened, Accepted, Stale, Nothing, HandedOut}
 use Rattle.keeper.specs.declared.fault.Fault.{Fault}
 use Rattle.keeper.specs.declared.fault.Refusal.TheVariants.{NoProgram, StageForbids}
 use Rattle.keeper.specs.declared.client.Action.{Action}
 use Rattle.keeper.specs.declared.client.Action.TheVariants.{Open, Publish, Close, Step}
-use Rattle.keeper.specs.declared.client.Opened.{Opened as Answer}
 use Rattle.keeper.specs.Stages.{has, moving}
 use Rattle.keeper.specs.Refusals.{fault}
 use Rattle.keeper.specs.Meaning.{Meaning, Laws, version, stage_of, left_of, times, copies, root_at, Paced}
-use Rattle.keeper.specs.Effects.{OpenDone, OpenSays, StepSays, StepDone, Rebinds, Openable, Begun, moved, step_fault, root_answer, root_of}
+use Rattle.keeper.specs.Effects.{OpenDone, OpenSays, StepSays, Rebinds, Begun, step_fault, root_answer, root_of}
 use Rattle.keeper.specs.Course.{Course, here, after, MadeByOthers, none, more, Made, actor, others_of, calls_in, turns, EndsOpen}
 use Rattle.keeper.proofs.Faults.{in_range, allowed, seated}
 use Rattle.keeper.proofs.Recall.{Recall, Recalled, recalled_at_call, recalled_on, first_kept}

@@ -1,5 +1,5 @@
 -- What each call of a keeper answers, and does to its meaning.
-use Rattle.std.specs.Prelude.{◌≡◌, ℕ, ◌+◌, ◌<◌, ◌≤◌, Bool, cond, not, ◌⊎◌, Some, None, Ok, Err, Option, Result, ◌==◌, ◌≢◌, nat_lt, slice_set}
+use Rattle.std.specs.Prelude.{◌≡◌, ℕ, ◌+◌, ◌<◌, ◌≤◌, cond, not, ◌⊎◌, Some, None, Ok, Err, Option, Result, ◌==◌, ◌≢◌, nat_lt, slice_set}
 use Rattle.keeper.specs.declared.stage.Stage.{Stage}
 use Rattle.keeper.specs.declared.stage.Stage.TheVariants.{Idle, Opening, Open, Offering, Offered, Closing}
 use Rattle.keeper.specs.declared.outcome.Outcome.{Outcome}

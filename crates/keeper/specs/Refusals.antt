@@ -1,11 +1,11 @@
 -- Refusals: the number of each, the layer, and which stage or number is turned down with which.
-use Rattle.std.specs.Prelude.{◌≡◌, ℕ, ◌<◌, ◌≤◌, Bool, true, false, ◌&&◌, Some, None, Ok, Err, Option, Result, nat_le}
+use Rattle.std.specs.Prelude.{◌≡◌, ℕ, ◌<◌, ◌≤◌, Bool, true, false, ◌&&◌, Some, Ok, Err, Option, Result, nat_le}
 use Rattle.keeper.specs.declared.stage.Stage.{Stage}
 use Rattle.keeper.specs.declared.stage.Stage.TheVariants.{Open}
 use Rattle.keeper.specs.declared.fault.Refusal.{Refusal}
 use Rattle.keeper.specs.declared.fault.Refusal.TheVariants.{NoProgram, WrongMemory, OutOfRange, Limits, StageForbids, PlaceEmpty, NoCell, NoFreeCell, LastSerial, Damaged}
 use Rattle.keeper.specs.declared.fault.Layer.{Layer}
-use Rattle.keeper.specs.declared.fault.Layer.TheVariants.{Cells, Keeper, Exchange}
+use Rattle.keeper.specs.declared.fault.Layer.TheVariants.{Keeper}
 use Rattle.keeper.specs.declared.fault.Fault.{Fault}
 use Rattle.keeper.specs.Stages.{has, idle, opened, closable, moving}
 

@@ -1,10 +1,8 @@
 -- Each turn leaves the program opening or ends its open; after the declared number of turns no step would be left.
-use Rattle.std.proofs.Common.{◌≡◌, ℕ, suc, ◌+◌, ◌-◌, ◌<◌, ◌≤◌, List, [], ◌++◌, get_or, Ok, sym, refl, ap, ◌∙◌, subst, add-one, arith}
+use Rattle.std.proofs.Common.{◌≡◌, ℕ, suc, ◌+◌, ◌-◌, [], Ok, sym, refl, ap, subst, add-one, arith}
 use Rattle.keeper.specs.declared.outcome.Outcome.{Outcome}
-use Rattle.keeper.specs.declared.outcome.Outcome.TheVariants.{GoesOn, Opened}
-use Rattle.keeper.specs.Meaning.{Meaning}
 use Rattle.keeper.specs.Effects.{StepSays}
-use Rattle.keeper.specs.Course.{turns, calls_in, others_of}
+use Rattle.keeper.specs.Course.{turns, calls_in}
 use Rattle.keeper.proofs.Waits.{Waiting, begins_waiting, others_waiting, turn_waiting, steps_left, step_allowed, step_answers, step_goes, ends_open, never_refused}
 use Rattle.keeper.proofs.client.open_among.Goals as goal
 

@@ -1,4 +1,4 @@
-use Rattle.std.proofs.Common.{◌≡◌, ◌+◌, List, [], take, sym, ◌∙◌, subst}
+use Rattle.std.proofs.Common.{◌+◌, List, [], take, sym, ◌∙◌, subst}
 use Rattle.std.proofs.lemmas.List.{take_all}
 use Rattle.keeper.specs.declared.client.Action.{Action}
 use Rattle.keeper.specs.declared.client.Action.TheVariants.{Open}

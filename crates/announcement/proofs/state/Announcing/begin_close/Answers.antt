@@ -1,4 +1,4 @@
-use Rattle.std.proofs.Common.{◌≡◌, ◌<◌, ◌≤◌, arith}
+use Rattle.std.proofs.Common.{arith}
 use Rattle.std.proofs.lemmas.Result.{err_from_is_err_and}
 use Rattle.announcement.specs.Exact.{close_refused, close_done, close_kept}
 use Rattle.announcement.proofs.state.Announcing.begin_close.Goals as goal

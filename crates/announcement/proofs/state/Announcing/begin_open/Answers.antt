@@ -1,4 +1,4 @@
-use Rattle.std.proofs.Common.{◌≡◌, ◌<◌, ◌≤◌, arith}
+use Rattle.std.proofs.Common.{arith}
 use Rattle.std.proofs.lemmas.Result.{err_from_is_err_and}
 use Rattle.announcement.specs.Exact.{open_refused, open_done, open_kept}
 use Rattle.announcement.proofs.state.Announcing.begin_open.Goals as goal

@@ -1,4 +1,4 @@
-use Rattle.std.proofs.Common.{◌≡◌, ◌<◌, ◌≤◌, arith}
+use Rattle.std.proofs.Common.{arith}
 use Rattle.std.proofs.lemmas.Result.{err_from_is_err_and}
 use Rattle.announcement.specs.Exact.{good, step_refused, step_done, step_kept}
 use Rattle.announcement.proofs.state.Announcing.take_step.Goals as goal

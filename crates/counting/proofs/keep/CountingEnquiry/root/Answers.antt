@@ -1,4 +1,4 @@
-use Rattle.std.proofs.Common.{◌≡◌, ◌<◌, get_or, Ok, Err, sym, ap, ◌∙◌, subst, arith}
+use Rattle.std.proofs.Common.{◌≡◌, ◌<◌, Ok, Err, sym, ap, ◌∙◌, subst, arith}
 use Rattle.keeper.specs.Stages.{has}
 use Rattle.keeper.specs.Effects.{root_answer}
 use Rattle.counting.specs.Model.{state_of}

@@ -1,4 +1,4 @@
-use Rattle.std.proofs.Common.{◌≡◌, ◌<◌, get_or, Ok, sym, ◌∙◌, subst, arith}
+use Rattle.std.proofs.Common.{◌≡◌, get_or, Ok, subst, arith}
 use Rattle.keeper.specs.declared.stage.Stage.TheVariants.{Idle}
 use Rattle.keeper.specs.Effects.{stage_answer}
 use Rattle.counting.specs.Model.{state_of}

@@ -1,8 +1,8 @@
-use Rattle.std.proofs.Common.{◌≡◌, true, false, cond, get_or, sym, refl, ap, ◌∙◌, arith}
+use Rattle.std.proofs.Common.{◌≡◌, true, false, cond, sym, refl, ap, ◌∙◌}
 use Rattle.keeper.specs.declared.outcome.Outcome.TheVariants.{HandedOut, Nothing}
 use Rattle.counting.specs.declared.rows.Row.TheVariants.{Empty}
 use Rattle.counting.specs.Model.{state_of}
-use Rattle.counting.specs.Moves.{count, last_one}
+use Rattle.counting.specs.Moves.{last_one}
 use Rattle.counting.specs.Bridge.{good, fields, view_closed, frees, stays}
 use Rattle.counting.specs.Steps.{closing_held, close_good}
 use Rattle.counting.proofs.state.Counting.end_close.Goals as goal

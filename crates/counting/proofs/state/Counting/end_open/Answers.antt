@@ -1,7 +1,7 @@
-use Rattle.std.proofs.Common.{◌≡◌, refl, arith}
+use Rattle.std.proofs.Common.{refl, arith}
 use Rattle.keeper.specs.declared.stage.Stage.TheVariants.{Open}
 use Rattle.counting.specs.Model.{state_of}
-use Rattle.counting.specs.Moves.{open_ends, raised}
+use Rattle.counting.specs.Moves.{raised}
 use Rattle.counting.specs.Bridge.{good, fields, view_row, few_users}
 use Rattle.counting.specs.Steps.{current_held, open_good}
 use Rattle.counting.proofs.state.Counting.end_open.Goals as goal

@@ -1,4 +1,4 @@
-use Rattle.std.proofs.Common.{◌≡◌, ◌<◌, ◌≤◌, sym, refl, ap, ◌∙◌, ⊎_elim, arith}
+use Rattle.std.proofs.Common.{◌<◌, refl, ap, ◌∙◌, ⊎_elim, arith}
 use Rattle.keeper.specs.Stages.{moving}
 use Rattle.counting.specs.Model.{state_of}
 use Rattle.counting.specs.Moves.{opening}
