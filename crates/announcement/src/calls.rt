@@ -99,7 +99,7 @@ impl Announcing {
         let p = self.seat(program)?;
         self.stage_of(p).may_step()?;
         let mut board = self.board;
-        match board.step(p) {
+        match board.checked_step(p) {
             Some(outcome) => {
                 *self = Announcing { board };
                 Ok(outcome)

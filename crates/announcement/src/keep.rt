@@ -1,27 +1,16 @@
 ghost use Rattle.std.specs.Prelude.{◌≡◌};
 ghost use Rattle.keeper.specs.Effects.{OpenSays, PublishSays, CloseSays, StepSays};
 ghost use Rattle.announcement_theory.specs.Means.{meaning_of};
-ghost use Rattle.announcement_theory.specs.Tests.{root_in};
 ghost use Rattle.announcement.specs.Calls.{opens, open_answer, publishes, publish_answer, closes, close_answer, steps, step_answer};
 ghost use Rattle.announcement.specs.Model.{state_in};
 ghost use Rattle.announcement.specs.Pace.{Paces};
 ghost use Rattle.announcement_theory.proofs.Lawful.{laws};
 ghost use Rattle.announcement.specs.Exact.{good};
 
+use crate::marks::root_in;
 use crate::state::Announcing;
-use announcement_theory::Slot;
 use board::version_in;
 use keeper::{Declared, Enquiry, Fault, Keeper, Outcome, Refusal, Stage, Version, refused};
-
-// The root in a slot, 0 in an empty one.
-fn root_in(slot: Slot) -> u32
-    ensures { result ≡ root_in slot }
-{
-    match slot {
-        Slot::Empty => 0,
-        Slot::Filled { root, .. } => root,
-    }
-}
 
 impl Enquiry for Announcing {
     ghost meaning = { λ k. meaning_of (state_in k) };

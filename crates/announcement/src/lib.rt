@@ -7,6 +7,8 @@ mod calls;
 mod keep;
 // The label at which a program stands.
 mod label;
+// What an enquiry reads of a slot.
+mod marks;
 // The whole state in one line.
 mod show;
 // The stage of a program, by its seat.

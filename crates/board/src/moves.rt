@@ -57,7 +57,7 @@ impl Board {
     }
 
     // One step of the operation that a program is in.
-    fn take_step(&mut self, p: u32) -> Outcome
+    pub(crate) fn step(&mut self, p: u32) -> Outcome
         requires { self.old.current.serial < 4294967295 }
         ensures { Took (step (state_of self.old) p) (state_of self.new) result }
     {
@@ -80,12 +80,12 @@ impl Board {
     }
 
     // One step of the operation that a program is in; none, and nothing is changed, where no serial is left above the current one.
-    pub fn step(&mut self, p: u32) -> Option<Outcome>
+    pub fn checked_step(&mut self, p: u32) -> Option<Outcome>
         ensures { Steps (state_of self.old) p (state_of self.new) result }
     {
         if self.current.serial == u32::MAX {
             return None;
         }
-        Some(self.take_step(p))
+        Some(self.step(p))
     }
 }
