@@ -1,5 +1,5 @@
 #!/usr/bin/env python3
-"""Brings the repository's own definitions and lemmas to snake case, types to camel case.
+"""Brings the repository's own definitions and lemmas to snake case; types and modules are in camel case already.
 
 usage: python3 tools/respell.py [--list]     at the top of the repository, once, after the toolchain's own script; --list only prints the names
 

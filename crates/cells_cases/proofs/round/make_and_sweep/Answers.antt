@@ -19,12 +19,12 @@ twice = field.Cell 0 ∷ field.Empty ∷ field.Number 5 ∷ field.Cell 0 ∷ []
 named : (m : Memory) (c : ℕ) → Live m 0 → field.Cell 0 ≡ field.Cell c → Live m c
 named m c l e = let q : 0 ≡ c = cc in subst (λ i. Live m i) q l
 
-twice-live : (m : Memory) → Live m 0 → LiveFields m twice
-twice-live m l zero c h e = named m c l e
-twice-live m l (suc zero) c h e = let z : ◌≡◌ {A = ℕ} 0 1 = cc in absurd (omega arith)
-twice-live m l (suc (suc zero)) c h e = let z : ◌≡◌ {A = ℕ} 0 1 = cc in absurd (omega arith)
-twice-live m l (suc (suc (suc zero))) c h e = named m c l e
-twice-live m l (suc (suc (suc (suc k)))) c h e = absurd (omega arith)
+twice_live : (m : Memory) → Live m 0 → LiveFields m twice
+twice_live m l zero c h e = named m c l e
+twice_live m l (suc zero) c h e = let z : ◌≡◌ {A = ℕ} 0 1 = cc in absurd (omega arith)
+twice_live m l (suc (suc zero)) c h e = let z : ◌≡◌ {A = ℕ} 0 1 = cc in absurd (omega arith)
+twice_live m l (suc (suc (suc zero))) c h e = named m c l e
+twice_live m l (suc (suc (suc (suc k)))) c h e = absurd (omega arith)
 
 -- a memory whose parts are known under other names
 moved : (h i : Heads) (cs ds : List Cell) (names : List ℕ) → h ≡ i → cs ≡ ds → Sound (memory i ds) names → Sound (memory h cs) names
@@ -38,7 +38,7 @@ returns g c = λ some few leaf.
     let m₂ = memory c.match-built.heads c.match-built.cells in
     let s₀ : Sound m₀ names = (c.make-heads.ensures.promises (omega arith) (omega arith) (omega arith)).sound in
     let s₁ : Sound m₁ (built c.build-built.result names) =
-    after_build twice c.args.leaf m₀ c.make-heads.new.leaves c.build-built.result m₁ c.build-built.new.leaves names c.build-built.ensures.promises c.build-built.ensures.after (twice-live m₀ (named_live m₀ names 0 s₀ (omega arith))) s₀ in
+    after_build twice c.args.leaf m₀ c.make-heads.new.leaves c.build-built.result m₁ c.build-built.new.leaves names c.build-built.ensures.promises c.build-built.ensures.after (twice_live m₀ (named_live m₀ names 0 s₀ (omega arith))) s₀ in
     let s₂ : Sound m₂ names = elim c.match-built.branch [
       | in-Ok w ↦ moved c.match-built.heads w.let_go.new.heads c.match-built.cells w.let_go.new.cells names w.heads-is w.cells-is
           (w.let_go.ensures.promises.sound (w.in-Ok.c ∷ names) names (λ d. omega arith) (subst (λ (r : Result ℕ Fault). Sound m₁ (built r names)) w.in-Ok.is s₁))
