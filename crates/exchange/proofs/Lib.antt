@@ -1,4 +1,2 @@
-pub mod Rows
 pub mod Idles
 pub mod Within
-pub mod Four

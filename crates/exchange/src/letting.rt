@@ -10,9 +10,8 @@ use exchange_theory::Places;
 pub(crate) fn let_go_named(cells: &mut [Cell], heads: &mut Heads, named: Option<u32>)
     ensures { memory heads.new cells.new ≡ let_go_place named (memory heads.old cells.old) }
 {
-    match named {
-        Some(c) => let_go(cells, heads, c),
-        None => {}
+    if let Some(c) = named {
+        let_go(cells, heads, c);
     }
 }
 

@@ -43,12 +43,7 @@ fn is_idle<K: Enquiry>(keeper: &K, p: u32) -> bool
 fn are_idle<K: Enquiry>(keeper: &K) -> bool
     ensures { result ≡ idle_below (K.Enquiry.meaning keeper.now) (K.Enquiry.meaning keeper.now).programs }
 {
-    for p in 0..keeper.programs() {
-        if !is_idle(keeper, p) {
-            return false;
-        }
-    }
-    true
+    (0..keeper.programs()).all(|p| is_idle(keeper, p))
 }
 
 // Whether the keeper is new: version 0 with root 0 is current, and every program is idle.

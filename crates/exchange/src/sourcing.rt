@@ -23,17 +23,14 @@ fn in_range(source: Source) -> bool
 pub(crate) fn all_in_range(sources: &[Source; 4]) -> bool
     ensures { result ≡ all_ranged sources.now }
 {
-    in_range(sources[0]) && in_range(sources[1]) && in_range(sources[2]) && in_range(sources[3])
+    sources.iter().all(|s| in_range(*s))
 }
 
 // The field that names what a place names, if it names a cell.
 fn cell_named(named: Option<u32>) -> Option<Field>
     ensures { MatchOption result (is_some named ≡ false) (λ f. (is_some named ≡ true) × (f ≡ placed named)) }
 {
-    match named {
-        Some(c) => Some(Field::Cell(c)),
-        None => None,
-    }
+    named.map(Field::Cell)
 }
 
 impl<K: Keeper> Exchange<K> {

@@ -1,27 +1,16 @@
 // A client of the exchange: a row of calls, one after the other.
 #![tactic(auto)]
 
-ghost use Rattle.std.specs.Prelude.{◌≡◌, ◌≤◌, List};
+ghost use Rattle.std.specs.Prelude.{List};
 ghost use Rattle.exchange_theory.specs.History.{Event, Reached};
 ghost use Rattle.exchange_theory.specs.Promises.{Promises};
 ghost use Rattle.exchange.specs.Worlds.{world_of};
-ghost use Rattle.exchange_client.specs.Rows.{Performed, turned};
+ghost use Rattle.exchange_client.specs.Rows.{Performed};
 
 use cells_theory::Cell;
 use exchange::Exchange;
-use exchange_theory::{Answer, Call};
-use keeper::{Enquiry, Fault, Keeper};
-
-// 1 for an answer that is a refusal.
-fn refusal_in<T: Copy>(answer: Result<Answer<T>, Fault>) -> usize
-    ensures value { result ≡ turned answer }
-    ensures low { result ≤ 1 }
-{
-    match answer {
-        Ok(_) => 0,
-        Err(_) => 1,
-    }
-}
+use exchange_theory::Call;
+use keeper::{Enquiry, Keeper};
 
 // Performs the calls in their order, and answers how many of them were refused. Whatever run led here, the run with these calls and
 // their answers added keeps every promise.
@@ -36,7 +25,9 @@ pub fn perform_all<K: Keeper, T: Copy>(
     let mut refused = 0;
     for call in calls {
         let answer = exchange.perform(*call, cells, leaves);
-        refused += refusal_in(answer);
+        if answer.is_err() {
+            refused += 1;
+        }
     }
     refused
 }

@@ -1,6 +1,6 @@
 use Rattle.std.proofs.Common.{◌≡◌, ℕ, true, List, Option, sym, subst}
 use Rattle.exchange_theory.specs.Inside.{inside}
-use Rattle.exchange.proofs.Rows.{inside_emptied}
+use Rattle.exchange_theory.proofs.Insides.{inside_emptied}
 use Rattle.exchange.proofs.desks.clear_places.Goals as goal
 
 pub invariant_of-result : goal.invariant_of-result

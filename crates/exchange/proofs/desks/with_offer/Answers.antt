@@ -1,4 +1,4 @@
-use Rattle.exchange.proofs.Rows.{under_set}
+use Rattle.exchange_theory.proofs.Insides.{under_set}
 use Rattle.exchange.proofs.desks.with_offer.Goals as goal
 
 pub invariant_of-result : goal.invariant_of-result

@@ -1,6 +1,6 @@
 -- The places of the last two sources are there too.
 use Rattle.exchange_theory.specs.Building.{src, ranged}
-use Rattle.exchange.proofs.Four.{four}
+use Rattle.exchange_theory.proofs.Invariant.{four}
 use Rattle.exchange.proofs.exchange.Exchange.fields_from.Goals as goal
 
 pub field_from-requires-3 : goal.field_from-requires-3
