@@ -1,4 +1,3 @@
 pub mod Worlds
-pub mod Desks
 pub mod Making
 pub mod Calls

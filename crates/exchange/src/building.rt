@@ -4,11 +4,11 @@ ghost use Rattle.cells_theory.specs.Build.{build_answer, build_memory, build_lea
 ghost use Rattle.exchange_theory.specs.Building.{all_ranged, Builds};
 ghost use Rattle.exchange.specs.Worlds.{world_of};
 
-use crate::desks::{building_at, with_building, with_heads};
+use crate::desks::{row_of, with_building, with_row};
 use crate::exchange::Exchange;
 use crate::faults::refused;
 use crate::letting::let_go_named;
-use crate::sourcing::all_in_range;
+use crate::sourcing::{all_in_range, fields_from};
 use cells_theory::{Cell, Field, Heads};
 use exchange_theory::{Column, Source};
 use keeper::{Enquiry, Fault, Keeper, Refusal};
@@ -52,15 +52,14 @@ impl<K: Keeper> Exchange<K> {
     {
         let ranged = in_range(place, &sources);
         self.admit(program, ranged, Column::Build, cells, leaves)?;
-        let Some(fields) = self.fields_from(program, &sources, cells, leaves) else {
+        let row = row_of(&self.desk.places, program);
+        let Some(fields) = fields_from(&row, &sources) else {
             return Err(refused(Refusal::PlaceEmpty));
         };
-        let mut heads = self.desk.heads;
-        let cell = fill(cells, leaves, &mut heads, fields, leaf)?;
-        let old = building_at(&self.desk, program, place);
-        let_go_named(cells, &mut heads, old);
-        let named = with_building(self.desk, program, place, Some(cell));
-        self.desk = with_heads(named, heads);
+        let cell = fill(cells, leaves, &mut self.desk.heads, fields, leaf)?;
+        let_go_named(cells, &mut self.desk.heads, row.building[place as usize]);
+        let named = with_building(row, place, Some(cell));
+        self.desk.places = with_row(self.desk.places, program, named);
         Ok(())
     }
 }

@@ -1,15 +1,13 @@
 ghost use Rattle.exchange_theory.specs.Keeping.{Opens, Publishes, Closes, Steps};
 ghost use Rattle.exchange.specs.Worlds.{world_of};
 
-use crate::desks::{
-    building_at, offered_at, with_building, with_closing, with_heads, with_offer, without_places,
-};
+use crate::desks::{row_of, with_building, with_row};
 use crate::exchange::Exchange;
 use crate::faults::refused;
-use crate::letting::let_go_building;
+use crate::letting::let_go_all;
 use cells::let_go;
 use cells_theory::Cell;
-use exchange_theory::Column;
+use exchange_theory::{Column, Row};
 use keeper::{Enquiry, Fault, Keeper, Outcome, Refusal};
 
 impl<K: Keeper> Exchange<K> {
@@ -33,11 +31,16 @@ impl<K: Keeper> Exchange<K> {
         ensures { Publishes program place result (world_of K.Enquiry.meaning self.old cells.now leaves.now) (world_of K.Enquiry.meaning self.new cells.now leaves.now) }
     {
         self.admit(program, place < 8, Column::Publish, cells, leaves)?;
-        let Some(cell) = building_at(&self.desk, program, place) else {
+        let row = row_of(&self.desk.places, program);
+        let Some(cell) = row.building[place as usize] else {
             return Err(refused(Refusal::PlaceEmpty));
         };
         self.keeper.publish(program, cell)?;
-        self.desk = with_offer(self.desk, program, place);
+        let offering = Row {
+            offered: place,
+            ..row
+        };
+        self.desk.places = with_row(self.desk.places, program, offering);
         Ok(())
     }
 
@@ -55,15 +58,14 @@ impl<K: Keeper> Exchange<K> {
         let outcome = self.keeper.step(program)?;
         match outcome {
             Outcome::Accepted(_) => {
-                let place = offered_at(&self.desk, program);
-                self.desk = with_building(self.desk, program, place, None);
+                let row = row_of(&self.desk.places, program);
+                let left = with_building(row, row.offered, None);
+                self.desk.places = with_row(self.desk.places, program, left);
                 Ok(outcome)
             }
             Outcome::HandedOut(_) => {
-                let root = self.desk.closing[program as usize];
-                let mut heads = self.desk.heads;
-                let_go(cells, &mut heads, root);
-                self.desk = with_heads(self.desk, heads);
+                let root = row_of(&self.desk.places, program).closing;
+                let_go(cells, &mut self.desk.heads, root);
                 Ok(outcome)
             }
             Outcome::GoesOn | Outcome::Opened(_) | Outcome::Stale | Outcome::Nothing => Ok(outcome),
@@ -82,11 +84,15 @@ impl<K: Keeper> Exchange<K> {
         self.admit(program, true, Column::Close, cells, leaves)?;
         let root = self.keeper.root(program)?;
         self.keeper.close(program)?;
-        let mut heads = self.desk.heads;
-        let places = self.desk.places;
-        let_go_building(cells, &mut heads, &places, program);
-        let left = with_heads(without_places(self.desk, program), heads);
-        self.desk = with_closing(left, program, root);
+        let row = row_of(&self.desk.places, program);
+        let_go_all(cells, &mut self.desk.heads, &row.building);
+        let left = Row {
+            reading: [None; 8],
+            building: [None; 8],
+            closing: root,
+            ..row
+        };
+        self.desk.places = with_row(self.desk.places, program, left);
         Ok(())
     }
 }

@@ -1,8 +1,9 @@
-ghost use Rattle.std.specs.Prelude.{◌≡◌, ◌<◌, ◌≤◌, true, length, replicate, None};
+ghost use Rattle.std.specs.Prelude.{◌≡◌, ◌<◌, ◌≤◌, true, length, replicate};
 ghost use Rattle.keeper.specs.Stages.{idle};
 ghost use Rattle.keeper.specs.Refusals.{limits};
 ghost use Rattle.keeper.specs.Meaning.{stage_of};
 ghost use Rattle.exchange_theory.specs.Make.{idle_below, new_keeper, new_memory, makeable, Makes};
+ghost use Rattle.exchange_theory.specs.World.{emptied};
 ghost use Rattle.exchange_theory.specs.Promises.{BeginsRun};
 ghost use Rattle.exchange.specs.Making.{fault_alone, Keeps};
 ghost use Rattle.exchange.specs.Worlds.{world_of};
@@ -11,7 +12,7 @@ use crate::exchange::Exchange;
 use crate::faults::refused;
 use crate::unmade::Unmade;
 use cells_theory::{Cell, Heads};
-use exchange_theory::{Desk, Places};
+use exchange_theory::{Desk, Places, Row};
 use keeper::{Enquiry, Keeper, Refusal};
 
 // Whether so many programs and that last serial are within the limits.
@@ -69,22 +70,22 @@ fn new_desk(programs: u32, size: u32, heads: Heads) -> Desk
     ensures programs { result.programs ≡ programs }
     ensures size { result.places.cells ≡ size }
     ensures chains { result.heads ≡ heads }
-    ensures reads { result.places.reading ≡ replicate 64 None }
-    ensures builds { result.places.building ≡ replicate 64 None }
-    ensures offers { result.offered ≡ replicate 8 0 }
-    ensures closes { result.closing ≡ replicate 8 0 }
+    ensures rows { result.places.rows ≡ replicate 8 (emptied 0 0) }
 {
+    let row = Row {
+        reading: [None; 8],
+        building: [None; 8],
+        offered: 0,
+        closing: 0,
+    };
     let places = Places {
         cells: size,
-        reading: [None; 64],
-        building: [None; 64],
+        rows: [row; 8],
     };
     Desk {
         programs,
         places,
         heads,
-        offered: [0; 8],
-        closing: [0; 8],
     }
 }
 

@@ -1,12 +1,8 @@
 ghost use Rattle.std.specs.Prelude.{◌≡◌, ◌<◌, true, false, is_some, MatchOption};
 ghost use Rattle.exchange_theory.specs.Building.{ranged, all_ranged, given, all_given, placed, field_from, fields_from};
-ghost use Rattle.exchange.specs.Worlds.{world_of};
 
-use crate::desks::{building_at, reading_at};
-use crate::exchange::Exchange;
-use cells_theory::{Cell, Field};
-use exchange_theory::Source;
-use keeper::{Enquiry, Keeper};
+use cells_theory::Field;
+use exchange_theory::{Row, Source};
 
 // Whether the place that a source names is there.
 fn in_range(source: Source) -> bool
@@ -33,44 +29,27 @@ fn cell_named(named: Option<u32>) -> Option<Field>
     named.map(Field::Cell)
 }
 
-impl<K: Keeper> Exchange<K> {
-    // The field that a source of a program gives, none where it names an empty place. The cells and leaves are lent along, so that
-    // this is said of the whole world.
-    fn field_from<T: Copy>(
-        &self,
-        program: u32,
-        source: Source,
-        cells: &[Cell],
-        leaves: &[T],
-    ) -> Option<Field>
-        requires seat { program < 8 }
-        requires place { ranged source ≡ true }
-        ensures { MatchOption result (given (world_of K.Enquiry.meaning self.now cells.now leaves.now) program source ≡ false) (λ f. (given (world_of K.Enquiry.meaning self.now cells.now leaves.now) program source ≡ true) × (f ≡ field_from (world_of K.Enquiry.meaning self.now cells.now leaves.now) program source)) }
-    {
-        match source {
-            Source::Empty => Some(Field::Empty),
-            Source::Number(n) => Some(Field::Number(n)),
-            Source::Reading(a) => cell_named(reading_at(&self.desk, program, a)),
-            Source::Building(b) => cell_named(building_at(&self.desk, program, b)),
-        }
+// The field that a source gives in a program's row, none where it names an empty place.
+fn field_from(row: &Row, source: Source) -> Option<Field>
+    requires { ranged source ≡ true }
+    ensures { MatchOption result (given row.now source ≡ false) (λ f. (given row.now source ≡ true) × (f ≡ field_from row.now source)) }
+{
+    match source {
+        Source::Empty => Some(Field::Empty),
+        Source::Number(n) => Some(Field::Number(n)),
+        Source::Reading(a) => cell_named(row.reading[a as usize]),
+        Source::Building(b) => cell_named(row.building[b as usize]),
     }
+}
 
-    // The fields that four sources of a program give, none where one names an empty place.
-    pub(crate) fn fields_from<T: Copy>(
-        &self,
-        program: u32,
-        sources: &[Source; 4],
-        cells: &[Cell],
-        leaves: &[T],
-    ) -> Option<[Field; 4]>
-        requires seat { program < 8 }
-        requires places { all_ranged sources.now ≡ true }
-        ensures { MatchOption result (all_given (world_of K.Enquiry.meaning self.now cells.now leaves.now) program sources.now ≡ false) (λ fs. (all_given (world_of K.Enquiry.meaning self.now cells.now leaves.now) program sources.now ≡ true) × (fs ≡ fields_from (world_of K.Enquiry.meaning self.now cells.now leaves.now) program sources.now)) }
-    {
-        let f0 = self.field_from(program, sources[0], cells, leaves)?;
-        let f1 = self.field_from(program, sources[1], cells, leaves)?;
-        let f2 = self.field_from(program, sources[2], cells, leaves)?;
-        let f3 = self.field_from(program, sources[3], cells, leaves)?;
-        Some([f0, f1, f2, f3])
-    }
+// The fields that four sources give in a program's row, none where one names an empty place.
+pub(crate) fn fields_from(row: &Row, sources: &[Source; 4]) -> Option<[Field; 4]>
+    requires { all_ranged sources.now ≡ true }
+    ensures { MatchOption result (all_given row.now sources.now ≡ false) (λ fs. (all_given row.now sources.now ≡ true) × (fs ≡ fields_from row.now sources.now)) }
+{
+    let f0 = field_from(row, sources[0])?;
+    let f1 = field_from(row, sources[1])?;
+    let f2 = field_from(row, sources[2])?;
+    let f3 = field_from(row, sources[3])?;
+    Some([f0, f1, f2, f3])
 }

@@ -1,7 +1,6 @@
 ghost use Rattle.exchange_theory.specs.Building.{Sweeps};
 ghost use Rattle.exchange.specs.Worlds.{world_of};
 
-use crate::desks::with_heads;
 use crate::exchange::Exchange;
 use crate::faults::refused;
 use cells_theory::Cell;
@@ -15,9 +14,7 @@ impl<K: Keeper> Exchange<K> {
         if !self.fits(cells, leaves) {
             return Err(refused(Refusal::WrongMemory));
         }
-        let mut heads = self.desk.heads;
-        let found = cells::sweep(cells, leaves, &mut heads)?;
-        self.desk = with_heads(self.desk, heads);
+        let found = cells::sweep(cells, leaves, &mut self.desk.heads)?;
         Ok(found.is_some())
     }
 }

@@ -1,6 +1,6 @@
 -- The cells hold what the run tells after a publish, a sweep and a build.
-use Rattle.std.proofs.Common.{◌≡◌, ℕ, ◌+◌, ◌*◌, ◌<◌, cond, ◌&&◌, eqb, ltb, leb, List, ◌∷◌, length, get_or, set, Some, None, Ok, Option, sym, refl, ap, ◌∙◌, subst, ⊎_elim, arith}
-use Rattle.std.proofs.lemmas.List.{length-set, get_or-set_same, get_or-set_other}
+use Rattle.std.proofs.Common.{◌≡◌, ℕ, ◌+◌, ◌<◌, cond, ◌&&◌, eqb, ltb, leb, List, ◌∷◌, length, get_or, Some, None, Ok, Option, sym, refl, ap, ◌∙◌, subst, ⊎_elim, arith}
+use Rattle.std.proofs.lemmas.List.{length-set}
 use Rattle.std.proofs.lemmas.Bool.{cases_eq, cond_both}
 use Rattle.keeper.specs.declared.version.Version.{Version}
 use Rattle.keeper.specs.declared.stage.Stage.{Stage}
@@ -8,7 +8,6 @@ use Rattle.keeper.specs.declared.stage.Stage.TheVariants.{Offering, Closing}
 use Rattle.keeper.specs.Stages.{serial_of}
 use Rattle.keeper.specs.Meaning.{Meaning, Laws, stage_of, times as times_kept, root_at}
 use Rattle.keeper.specs.Effects.{PublishDone}
-use Rattle.keeper.proofs.Totals.{total_set}
 use Rattle.cells_theory.specs.declared.cell.Cell.{Cell}
 use Rattle.cells_theory.specs.declared.cell.Field.{Field}
 use Rattle.cells_theory.specs.declared.cell.Field.TheVariants as field
@@ -24,13 +23,15 @@ use Rattle.cells_theory.proofs.Frames.{kept_stands, kept_reaches}
 use Rattle.cells_theory.proofs.Reaching.{live_used, live_waits_not}
 use Rattle.cells_theory.proofs.Building.{build_promises}
 use Rattle.cells_theory.proofs.Sweeping.{sweep_promises}
-use Rattle.exchange_theory.specs.World.{World, building_at, memory_of, keeping, building, storing, leaving, offering, let_go_place}
+use Rattle.exchange_theory.specs.declared.row.Row.{Row}
+use Rattle.exchange_theory.specs.World.{World, row, row_building, row_at, building_at, offered_at, memory_of, keeping, with_row, building, storing, leaving, offering, let_go_place}
 use Rattle.exchange_theory.specs.Building.{placed, first_waiting}
 use Rattle.exchange_theory.specs.Story.{at, at_place}
 use Rattle.exchange_theory.specs.Promises.{names}
 use Rattle.exchange_theory.proofs.Meant.{opened_at, at_same, at_other, begun_stage, begun_others}
-use Rattle.exchange_theory.proofs.Naming.{name_by, names_are, on_place}
-use Rattle.exchange_theory.proofs.Held.{Shaped, Held, Stays, stood_stays, stood_moves, same_versions, sound_keeps}
+use Rattle.exchange_theory.proofs.Rows.{row_same, row_other, part_kept, place_same, place_other}
+use Rattle.exchange_theory.proofs.Naming.{name_by, names_are, names_place, on_place}
+use Rattle.exchange_theory.proofs.Held.{Shaped, Held, Stays, shaped_row, shaped_keeps, sound_row, sound_keeps, stood_row, stood_stays, stood_moves, same_versions}
 
 -- no cell comes or goes
 pub let_go_length : (c : ℕ) (m : Memory) → length (let_go c m).cells ≡ length m.cells
@@ -88,27 +89,17 @@ shaped_stores m ls e g i = record {
   most = i.most;
   few = i.few;
   «same» = i.«same»;
+  seats = i.seats;
   reads = i.reads;
   builds = i.builds;
-  offers = i.offers;
-  closes = i.closes;
   vacant = i.vacant;
 }
 
 -- one building place is written, of a program below P
-pub shaped_builds : {T : Type 0} {w : World T} (p b : ℕ) (o : Option ℕ) → p < w.programs → b < 8 → Shaped w → Shaped (building (set w.building (8 * p + b) o) w)
-shaped_builds {w = w} p b o lp lb i = record {
-  cells_fit = i.cells_fit;
-  leaves_fit = i.leaves_fit;
-  most = i.most;
-  few = i.few;
-  «same» = i.«same»;
-  reads = i.reads;
-  builds = length-set w.building (8 * p + b) o ∙ i.builds;
-  offers = i.offers;
-  closes = i.closes;
-  vacant = λ j l. get_or-set_other w.building (8 * p + b) j o None (λ e. omega (arith, e, l, lp, lb)) ∙ i.vacant j l;
-}
+pub shaped_builds : {T : Type 0} {w : World T} (p b : ℕ) (o : Option ℕ) → p < w.programs → Shaped w → Shaped (building p b o w)
+shaped_builds {w = w} p b o lp i =
+    let l8 : p < 8 = omega (arith, i.few, lp) in
+    shaped_row p (row_building b o (row_at w p)) lp (i.reads p l8) (length-set (row_at w p).building b o ∙ i.builds p l8) i
 
 module _ {T : Type 0} (version : ℕ → Tree T) (rd bd : ℕ → ℕ → Tree T) (offers : ℕ → ℕ) (w : World T) (laws : Laws w.keeper) (h : Held version rd bd offers w) where
   pub held_publish : (p b c : ℕ) (n : Meaning) → p < w.keeper.programs → b < 8 → building_at w p b ≡ Some c → PublishDone w.keeper p c n → opened_at (stage_of w.keeper p) ≡ Some (serial_of (stage_of w.keeper p))
@@ -120,39 +111,31 @@ module _ {T : Type 0} (version : ℕ → Tree T) (rd bd : ℕ → ℕ → Tree T
       let others = begun_others m p st m.declared.offering n d in
       let k : n.kept ≡ m.kept = ap (λ (x : Meaning). x.kept) d.after in
       let cur : n.current ≡ m.current = ap (λ (x : Meaning). x.current) d.after in
-      let l : p < length w.offered = omega (arith, h.shaped.offers, h.shaped.few, h.shaped.«same», lp) in
       let i = h.shaped in
+      let u = keeping n w in
+      let r = row (row_at w p).reading (row_at w p).building b (row_at w p).closing in
+      let l : p < length w.rows = omega (arith, i.seats, i.few, i.«same», lp) in
+      let builds = λ (x : ℕ). part_kept (λ (y : Row). get_or y.building x None) u p r l refl in
       let so = stood_moves n version h.stood (same_versions n.kept k h.stood)
       (λ q s g. (⊎_elim (λ z. ap (λ j. opened_at (stage_of n j)) z ∙ ap opened_at own ∙ sym op ∙ ap (λ j. opened_at (stage_of m j)) (sym z) ∙ g) (λ ne. ap opened_at (others q ne) ∙ g) (cases_eq q p), ap (root_at s) k)) in
       record {
-        shaped = record {
-          cells_fit = i.cells_fit;
-          leaves_fit = i.leaves_fit;
-          most = i.most;
-          few = i.few;
-          «same» = ap (λ (x : Meaning). x.programs) d.after ∙ i.«same»;
-          reads = i.reads;
-          builds = i.builds;
-          offers = length-set w.offered p b ∙ i.offers;
-          closes = i.closes;
-          vacant = i.vacant;
-        };
-        sound = sound_keeps w n.kept k h.sound;
-        stood = record { versions = so.versions; built = so.built; read = so.read; reached = so.reached };
+        shaped = shaped_row p r (omega (arith, i.«same», lp)) (i.reads p (omega (arith, l, i.seats))) (i.builds p (omega (arith, l, i.seats))) (shaped_keeps n i (ap (λ (x : Meaning). x.programs) d.after));
+        sound = sound_row u p r l refl (sound_keeps w n.kept k h.sound);
+        stood = stood_row u p r l refl refl so;
         noted = record {
-          offer = λ q r s g. ⊎_elim
+          offer = λ q x s g. ⊎_elim
               (λ z. let a = at_same offers p b in
-              let g2 : Offering c (serial_of (stage_of m p)) ≡ Offering r s = sym own ∙ ap (stage_of n) (sym z) ∙ g in
-              let cr : c ≡ r = cc in
-              subst (λ (x : ℕ). (at offers p b x < 8) × (get_or (set w.offered p b) x 0 ≡ at offers p b x) × (building_at w x (at offers p b x) ≡ Some r)) (sym z)
-              (omega (arith, a, lb), get_or-set_same w.offered p b 0 l ∙ sym a, ap (building_at w p) a ∙ e ∙ ap Some cr))
-              (λ ne. let o = h.noted.offer q r s (sym (others q ne) ∙ g) in let a = at_other offers p b q ne in
-              (omega (arith, a, o.0), get_or-set_other w.offered p q b 0 ne ∙ o.1 ∙ sym a, ap (building_at w q) a ∙ o.2))
+              let g2 : Offering c (serial_of (stage_of m p)) ≡ Offering x s = sym own ∙ ap (stage_of n) (sym z) ∙ g in
+              let cr : c ≡ x = cc in
+              subst (λ (y : ℕ). (at offers p b y < 8) × (offered_at (with_row p r u) y ≡ at offers p b y) × (building_at (with_row p r u) y (at offers p b y) ≡ Some x)) (sym z)
+              (omega (arith, a, lb), ap (λ (y : Row). y.offered) (row_same u p r l) ∙ sym a, ap (building_at (with_row p r u) p) a ∙ builds b p ∙ e ∙ ap Some cr))
+              (λ ne. let o = h.noted.offer q x s (sym (others q ne) ∙ g) in let a = at_other offers p b q ne in
+              (omega (arith, a, o.0), ap (λ (y : Row). y.offered) (row_other u p r q ne) ∙ o.1 ∙ sym a, ap (building_at (with_row p r u) q) a ∙ builds (offers q) q ∙ o.2))
               (cases_eq q p);
           close = λ q s g. ⊎_elim
               (λ z. let g2 : Offering c (serial_of (stage_of m p)) ≡ Closing s = sym own ∙ ap (stage_of n) (sym z) ∙ g in let z2 : ◌≡◌ {A = ℕ} 0 1 = cc in absurd (omega arith))
               (λ ne. let o = h.noted.close q s (sym (others q ne) ∙ g) in
-              (omega (arith, o.0, ap (λ (v : Version). v.serial) cur), λ x. o.1 (subst (λ (y : List Version). 0 < times_kept s y) k x) ∙ ap (root_at s) (sym k)))
+              (omega (arith, o.0, ap (λ (v : Version). v.serial) cur), λ x. part_kept (λ (y : Row). y.closing) u p r l refl q ∙ o.1 (subst (λ (y : List Version). 0 < times_kept s y) k x) ∙ ap (root_at s) (sym k)))
               (cases_eq q p);
         };
       }
@@ -175,7 +158,7 @@ module _ {T : Type 0} (version : ℕ → Tree T) (rd bd : ℕ → ℕ → Tree T
       → LiveFields (memory_of w) fs → Stands w.cells w.leaves (nth fs 0) x₀ → Stands w.cells w.leaves (nth fs 1) x₁ → Stands w.cells w.leaves (nth fs 2) x₂ → Stands w.cells w.leaves (nth fs 3) x₃
       → build_answer (memory_of w) (length w.leaves) fs ≡ Ok c
       → Held version rd (at_place bd p b (node leaf x₀ x₁ x₂ x₃)) offers
-      (building (set w.building (8 * p + b) (Some c)) (leaving (build_leaves (Ok c) leaf w.leaves) (storing (let_go_place (building_at w p b) (build_memory (Ok c) fs (memory_of w))) w)))
+      (building p b (Some c) (leaving (build_leaves (Ok c) leaf w.leaves) (storing (let_go_place (building_at w p b) (build_memory (Ok c) fs (memory_of w))) w)))
   held_build p b c fs leaf x₀ x₁ x₂ x₃ lp lb notoff live s₀ s₁ s₂ s₃ new =
       let m = memory_of w in
       let n = build_memory (Ok c) fs m in
@@ -190,24 +173,27 @@ module _ {T : Type 0} (version : ℕ → Tree T) (rd bd : ℕ → ℕ → Tree T
       } in
       let so = stood_stays version rd bd offers w laws h o ms y in
       let fresh = kept_stands n.cells o.cells ms pf (field.Cell c) (node leaf x₀ x₁ x₂ x₃) (k.new x₀ x₁ x₂ x₃ s₀ s₁ s₂ s₃) in
-      let l : 8 * p + b < length w.building = omega (arith, h.shaped.builds, h.shaped.few, lp, lb) in
-      let v : World T = building (set w.building (8 * p + b) (Some c)) (leaving ms (storing o w)) in
+      let u : World T = leaving ms (storing o w) in
+      let r = row_building b (Some c) (row_at w p) in
+      let v : World T = with_row p r u in
+      let l8 : p < 8 = omega (arith, h.shaped.few, lp) in
+      let l : p < length w.rows = omega (arith, h.shaped.seats, l8) in
+      let bl : b < length (row_at w p).building = omega (arith, h.shaped.builds p l8, lb) in
+      let own = place_same (λ (y : Row). y.building) u p r b (Some c) l bl refl in
+      let apart = place_other (λ (y : Row). y.building) u p r b (Some c) l refl in
+      let reads = λ (a : ℕ). part_kept (λ (y : Row). get_or y.reading a None) u p r l refl in
       record {
-        shaped = shaped_builds p b (Some c) lp lb (shaped_stores o ms (place_length old n ∙ build_length c fs m) (length-set w.leaves c leaf) h.shaped);
-        sound = place_sound old n (c ∷ names w) (names v) k.sound (λ d. omega (arith, names_are v d, names_are w d, total_set (name_by d) w.building (8 * p + b) (Some c) None l));
+        shaped = shaped_builds p b (Some c) lp (shaped_stores o ms (place_length old n ∙ build_length c fs m) (length-set w.leaves c leaf) h.shaped);
+        sound = place_sound old n (c ∷ names w) (names v) k.sound (λ d. omega (arith, names_are v d, names_are w d, names_place w p b (Some c) l bl d));
         stood = record {
           versions = so.versions;
-          built = λ q a lq la. on_place (λ z t. Stands o.cells ms (placed z) t) w.building bd p b (Some c) (node leaf x₀ x₁ x₂ x₃) l lb fresh q a la (so.built q a lq la);
-          read = so.read;
-          reached = so.reached;
+          built = λ q a lq la. on_place (λ z t. Stands o.cells ms (placed z) t) (building_at w) (building_at v) bd p b (Some c) (node leaf x₀ x₁ x₂ x₃) own apart fresh q a (so.built q a lq la);
+          read = λ q a lq la. subst (λ (z : Option ℕ). Stands o.cells ms (placed z) (rd q a)) (sym (reads a q)) (so.read q a lq la);
+          reached = λ q a d lq la e. so.reached q a d lq la (sym (reads a q) ∙ e);
         };
         noted = record {
-          offer = λ q r s e. let z = h.noted.offer q r s e in (
-            z.0,
-            z.1,
-            get_or-set_other w.building (8 * p + b) (8 * q + offers q) (Some c) None
-                (λ j. let qp : q ≡ p = omega (arith, j, lb, z.0) in notoff r s (ap (stage_of w.keeper) (sym qp) ∙ e)) ∙ z.2,
-          );
-          close = h.noted.close;
+          offer = λ q x s e. let z = h.noted.offer q x s e in
+              (z.0, part_kept (λ (y : Row). y.offered) u p r l refl q ∙ z.1, apart q (offers q) (λ j _. notoff x s (ap (stage_of w.keeper) (sym j) ∙ e)) ∙ z.2);
+          close = λ q s e. let z = h.noted.close q s e in (z.0, λ g. part_kept (λ (y : Row). y.closing) u p r l refl q ∙ z.1 g);
         };
       }

@@ -1,7 +1,7 @@
 -- The cells hold what the run tells: what is true of the places, the versions and the memory of every reached world.
-use Rattle.std.proofs.Common.{◌≡◌, ℕ, ◌+◌, ◌*◌, ◌<◌, ◌≤◌, cond, List, ◌++◌, map, length, get_or, set, Some, None, Ok, Err, Option, sym, refl, ap, ◌∙◌, subst, ⊎_elim, arith}
-use Rattle.std.proofs.lemmas.List.{length-set, get_or-set_same, get_or-set_other}
-use Rattle.std.proofs.lemmas.Bool.{cases_eq, lt-ltb}
+use Rattle.std.proofs.Common.{◌≡◌, ℕ, ◌<◌, ◌≤◌, cond, List, [], ◌++◌, map, length, get_or, Some, None, Ok, Err, Option, sym, refl, ap, ◌∙◌, subst, ⊎_elim, arith}
+use Rattle.std.proofs.lemmas.List.{length-set, get_or_past}
+use Rattle.std.proofs.lemmas.Bool.{cases_eq, cases_lt, lt-ltb}
 use Rattle.keeper.specs.declared.version.Version.{Version}
 use Rattle.keeper.specs.declared.stage.Stage.{Stage}
 use Rattle.keeper.specs.declared.stage.Stage.TheVariants.{Idle, Opening, Open, Offering, Offered, Closing}
@@ -10,6 +10,7 @@ use Rattle.keeper.specs.Refusals.{fault}
 use Rattle.keeper.specs.Stages.{has}
 use Rattle.keeper.specs.Meaning.{Meaning, Laws, stage_of, times as times_kept, root_at}
 use Rattle.keeper.specs.Effects.{Frame, Rebinds, root_answer, root_of}
+use Rattle.keeper.specs.Totals.{total}
 use Rattle.keeper.proofs.Totals.{total_at}
 use Rattle.cells_theory.specs.declared.cell.Cell.{Cell}
 use Rattle.cells_theory.specs.declared.cell.Field.TheVariants as field
@@ -18,14 +19,16 @@ use Rattle.cells_theory.specs.Trees.{Tree, empty, number, node, Stands, Reaches}
 use Rattle.cells_theory.specs.Sound.{times, Sound}
 use Rattle.cells_theory.specs.Promises.{Live}
 use Rattle.cells_theory.proofs.Counting.{same_self}
-use Rattle.cells_theory.proofs.Counts.{named_live}
+use Rattle.cells_theory.proofs.Counts.{named_live, sound_like}
 use Rattle.cells_theory.proofs.Reaching.{reached_live}
-use Rattle.exchange_theory.specs.World.{World, reading_at, building_at, memory_of, keeping, reading, storing, leaving}
+use Rattle.exchange_theory.specs.declared.row.Row.{Row}
+use Rattle.exchange_theory.specs.World.{World, row, row_reading, row_at, reading_at, building_at, offered_at, closed_at, memory_of, keeping, with_row, reading, storing, leaving}
 use Rattle.exchange_theory.specs.Building.{placed}
 use Rattle.exchange_theory.specs.Story.{Story, resting, at_place}
-use Rattle.exchange_theory.specs.Promises.{cells_in, names}
+use Rattle.exchange_theory.specs.Promises.{built_in, names}
 use Rattle.exchange_theory.proofs.Meant.{opened_at, task_at, rebinds_opened}
-use Rattle.exchange_theory.proofs.Naming.{name_by, names_are, root_named, on_place}
+use Rattle.exchange_theory.proofs.Rows.{row_same, row_other, part_kept, place_same, place_other}
+use Rattle.exchange_theory.proofs.Naming.{name_by, names_in, names_are, names_row, root_named, on_place}
 
 -- the sizes of everything, and no building place in use beyond those of the programs
 pub record Shaped {T : Type 0} (w : World T) : Type 0 where
@@ -34,11 +37,10 @@ pub record Shaped {T : Type 0} (w : World T) : Type 0 where
   pub most : w.size ≤ 65536
   pub few : w.programs ≤ 8
   pub «same» : w.keeper.programs ≡ w.programs
-  pub reads : length w.reading ≡ 64
-  pub builds : length w.building ≡ 64
-  pub offers : length w.offered ≡ 8
-  pub closes : length w.closing ≡ 8
-  pub vacant : (i : ℕ) → 8 * w.programs ≤ i → get_or w.building i None ≡ None
+  pub seats : length w.rows ≡ 8
+  pub reads : (p : ℕ) → p < 8 → length (row_at w p).reading ≡ 8
+  pub builds : (p : ℕ) → p < 8 → length (row_at w p).building ≡ 8
+  pub vacant : (p b : ℕ) → w.programs ≤ p → building_at w p b ≡ None
 
 -- the cells stand for the trees of the run: those of the kept versions and of the places; and what a program reads is reached from the
 -- root of the version that it opened
@@ -51,8 +53,8 @@ pub record Stood {T : Type 0} (version : ℕ → Tree T) (rd bd : ℕ → ℕ �
 
 -- what is remembered of offers and closes is right
 pub record Noted {T : Type 0} (offers : ℕ → ℕ) (w : World T) : Type 0 where
-  pub offer : (p r s : ℕ) → stage_of w.keeper p ≡ Offering r s → (offers p < 8) × (get_or w.offered p 0 ≡ offers p) × (building_at w p (offers p) ≡ Some r)
-  pub close : (p s : ℕ) → stage_of w.keeper p ≡ Closing s → (s ≤ w.keeper.current.serial) × (0 < times_kept s w.keeper.kept → get_or w.closing p 0 ≡ root_at s w.keeper.kept)
+  pub offer : (p r s : ℕ) → stage_of w.keeper p ≡ Offering r s → (offers p < 8) × (offered_at w p ≡ offers p) × (building_at w p (offers p) ≡ Some r)
+  pub close : (p s : ℕ) → stage_of w.keeper p ≡ Closing s → (s ≤ w.keeper.current.serial) × (0 < times_kept s w.keeper.kept → closed_at w p ≡ root_at s w.keeper.kept)
 
 pub record Held {T : Type 0} (version : ℕ → Tree T) (rd bd : ℕ → ℕ → Tree T) (offers : ℕ → ℕ) (w : World T) : Type 0 where
   pub shaped : Shaped w
@@ -91,14 +93,62 @@ pub record Stays {T : Type 0} (w : World T) (m : Memory) (ls : List T) : Type 0 
   pub stands : (d : ℕ) (t : Tree T) → Live (memory_of w) d → Stands w.cells w.leaves (field.Cell d) t → Stands m.cells ls (field.Cell d) t
   pub reaches : (d e : ℕ) → Live (memory_of w) d → Reaches w.cells d e → Reaches m.cells d e
 
+-- no program has more building places than eight
+pub eight_places : {T : Type 0} (w : World T) → Shaped w → (p b : ℕ) → 8 ≤ b → building_at w p b ≡ None
+eight_places w i p b k =
+    ⊎_elim
+    (λ l. get_or_past (row_at w p).building b None (omega (arith, i.builds p l, k)))
+    (λ past. i.vacant p b (omega (arith, i.few, past)))
+    (cases_lt p 8)
+
+-- another row for a program below P
+pub shaped_row : {T : Type 0} {w : World T} (p : ℕ) (r : Row) → p < w.programs → length r.reading ≡ 8 → length r.building ≡ 8 → Shaped w → Shaped (with_row p r w)
+shaped_row {w = w} p r lp er eb i =
+    let l : p < length w.rows = omega (arith, i.seats, i.few, lp) in record {
+      cells_fit = i.cells_fit;
+      leaves_fit = i.leaves_fit;
+      most = i.most;
+      few = i.few;
+      «same» = i.«same»;
+      seats = length-set w.rows p r ∙ i.seats;
+      reads = λ q lq. ⊎_elim
+          (λ z. ap (λ j. length (row_at (with_row p r w) j).reading) z ∙ ap (λ (x : Row). length x.reading) (row_same w p r l) ∙ er)
+          (λ ne. ap (λ (x : Row). length x.reading) (row_other w p r q ne) ∙ i.reads q lq)
+          (cases_eq q p);
+      builds = λ q lq. ⊎_elim
+          (λ z. ap (λ j. length (row_at (with_row p r w) j).building) z ∙ ap (λ (x : Row). length x.building) (row_same w p r l) ∙ eb)
+          (λ ne. ap (λ (x : Row). length x.building) (row_other w p r q ne) ∙ i.builds q lq)
+          (cases_eq q p);
+      vacant = λ q b k. ap (λ (x : Row). get_or x.building b None) (row_other w p r q (λ z. omega (arith, z, k, lp))) ∙ i.vacant q b k;
+    }
+
+-- another row with the same building places
+pub sound_row : {T : Type 0} (w : World T) (p : ℕ) (r : Row) → p < length w.rows → r.building ≡ (row_at w p).building → Sound (memory_of w) (names w) → Sound (memory_of w) (names (with_row p r w))
+sound_row w p r l e s =
+    sound_like (memory_of w) (names w) (names (with_row p r w))
+    (λ d. omega (arith, names_are (with_row p r w) d, names_are w d, names_row w p r l d, ap (total (name_by d)) e)) s
+
+-- another row with the same places
+pub stood_row : {T : Type 0} {version : ℕ → Tree T} {rd bd : ℕ → ℕ → Tree T} (w : World T) (p : ℕ) (r : Row) → p < length w.rows → r.reading ≡ (row_at w p).reading → r.building ≡ (row_at w p).building
+    → Stood version rd bd w → Stood version rd bd (with_row p r w)
+stood_row {rd = rd} {bd = bd} w p r l er eb i =
+    let builds = λ (b : ℕ). part_kept (λ (y : Row). get_or y.building b None) w p r l (ap (λ (os : List (Option ℕ)). get_or os b None) eb) in
+    let reads = λ (a : ℕ). part_kept (λ (y : Row). get_or y.reading a None) w p r l (ap (λ (os : List (Option ℕ)). get_or os a None) er) in record {
+      versions = i.versions;
+      built = λ q b lq lb. subst (λ (o : Option ℕ). Stands w.cells w.leaves (placed o) (bd q b)) (sym (builds b q)) (i.built q b lq lb);
+      read = λ q a lq la. subst (λ (o : Option ℕ). Stands w.cells w.leaves (placed o) (rd q a)) (sym (reads a q)) (i.read q a lq la);
+      reached = λ q a c lq la e. i.reached q a c lq la (sym (reads a q) ∙ e);
+    }
+
 module _ {T : Type 0} (version : ℕ → Tree T) (rd bd : ℕ → ℕ → Tree T) (offers : ℕ → ℕ) (w : World T) (laws : Laws w.keeper) (h : Held version rd bd offers w) where
   version_named : (s : ℕ) → 0 < times_kept s w.keeper.kept → 0 < times (root_at s w.keeper.kept) (names w)
   version_named s k = omega (arith, names_are w (root_at s w.keeper.kept), root_named s w.keeper.kept k)
 
   built_named : (p b c : ℕ) → p < 8 → b < 8 → building_at w p b ≡ Some c → 0 < times c (names w)
   built_named p b c lp lb e =
-      let l : 8 * p + b < length w.building = omega (arith, h.shaped.builds, lp, lb) in
-      omega (arith, names_are w c, total_at (name_by c) w.building (8 * p + b) None l, ap (name_by c) e, same_self c)
+      let l : p < length w.rows = omega (arith, h.shaped.seats, lp) in
+      let n : b < length (row_at w p).building = omega (arith, h.shaped.builds p lp, lb) in
+      omega (arith, names_are w c, total_at (names_in c) w.rows p (row [] [] 0 0) l, total_at (name_by c) (row_at w p).building b None n, ap (name_by c) e, same_self c)
 
   pub version_live : (s : ℕ) → 0 < times_kept s w.keeper.kept → Live (memory_of w) (root_at s w.keeper.kept)
   version_live s k = named_live (memory_of w) (names w) (root_at s w.keeper.kept) h.sound (version_named s k)
@@ -124,38 +174,41 @@ module _ {T : Type 0} (version : ℕ → Tree T) (rd bd : ℕ → ℕ → Tree T
   }
 
   -- root and down: a reading place gets a cell that the program's version reaches
-  pub held_reads : (p a c : ℕ) (x : Tree T) → p < 8 → a < 8 → Stands w.cells w.leaves (field.Cell c) x
+  pub held_reads : (p a c : ℕ) (x : Tree T) → p < w.programs → a < 8 → Stands w.cells w.leaves (field.Cell c) x
       → (s : ℕ) × (opened_at (stage_of w.keeper p) ≡ Some s) × Reaches w.cells (root_at s w.keeper.kept) c
-      → Held version (at_place rd p a x) bd offers (reading (set w.reading (8 * p + a) (Some c)) w)
+      → Held version (at_place rd p a x) bd offers (reading p a (Some c) w)
   held_reads p a c x lp la st path =
-      let l : 8 * p + a < length w.reading = omega (arith, h.shaped.reads, lp, la) in
+      let i = h.shaped in
+      let old = row_at w p in
+      let r = row_reading a (Some c) old in
+      let v = with_row p r w in
+      let l8 : p < 8 = omega (arith, i.few, lp) in
+      let l : p < length w.rows = omega (arith, i.seats, l8) in
+      let ra : a < length old.reading = omega (arith, i.reads p l8, la) in
+      let own = place_same (λ (y : Row). y.reading) w p r a (Some c) l ra refl in
+      let apart = place_other (λ (y : Row). y.reading) w p r a (Some c) l refl in
+      let builds : (q b : ℕ) → building_at v q b ≡ building_at w q b = λ q b. part_kept (λ (y : Row). get_or y.building b None) w p r l refl q in
       record {
-        shaped = record {
-          cells_fit = h.shaped.cells_fit;
-          leaves_fit = h.shaped.leaves_fit;
-          most = h.shaped.most;
-          few = h.shaped.few;
-          «same» = h.shaped.«same»;
-          reads = length-set w.reading (8 * p + a) (Some c) ∙ h.shaped.reads;
-          builds = h.shaped.builds;
-          offers = h.shaped.offers;
-          closes = h.shaped.closes;
-          vacant = h.shaped.vacant;
-        };
-        sound = h.sound;
+        shaped = shaped_row p r lp (length-set old.reading a (Some c) ∙ i.reads p l8) (i.builds p l8) i;
+        sound = sound_row w p r l refl h.sound;
         stood = record {
           versions = h.stood.versions;
-          built = h.stood.built;
-          read = λ q b lq lb. on_place (λ o t. Stands w.cells w.leaves (placed o) t) w.reading rd p a (Some c) x l la st q b lb (h.stood.read q b lq lb);
+          built = λ q b lq lb. subst (λ (o : Option ℕ). Stands w.cells w.leaves (placed o) (bd q b)) (sym (builds q b)) (h.stood.built q b lq lb);
+          read = λ q b lq lb. on_place (λ o t. Stands w.cells w.leaves (placed o) t) (reading_at w) (reading_at v) rd p a (Some c) x own apart st q b (h.stood.read q b lq lb);
           reached = λ q b d lq lb e. ⊎_elim
-              (λ j. let k : q ≡ p = omega (arith, j, la, lb) in
-              let g : Some c ≡ Some d = sym (ap (λ i. get_or (set w.reading (8 * p + a) (Some c)) i None) j ∙ get_or-set_same w.reading (8 * p + a) (Some c) None l) ∙ e in
+              (λ k. ⊎_elim
+              (λ j. let g : Some c ≡ Some d = sym own ∙ sym (ap (λ i. reading_at v i b) k ∙ ap (reading_at v p) j) ∙ e in
               let cd : c ≡ d = cc in
               (path.0, ap (λ i. opened_at (stage_of w.keeper i)) k ∙ path.1, subst (λ (y : ℕ). Reaches w.cells (root_at path.0 w.keeper.kept) y) cd path.2))
-              (λ ne. h.stood.reached q b d lq lb (sym (get_or-set_other w.reading (8 * p + a) (8 * q + b) (Some c) None ne) ∙ e))
-              (cases_eq (8 * q + b) (8 * p + a));
+              (λ ne. h.stood.reached q b d lq lb (sym (apart q b (λ _ j. ne j)) ∙ e))
+              (cases_eq b a))
+              (λ ne. h.stood.reached q b d lq lb (sym (apart q b (λ k _. ne k)) ∙ e))
+              (cases_eq q p);
         };
-        noted = record { offer = h.noted.offer; close = h.noted.close };
+        noted = record {
+          offer = λ q y s e. let o = h.noted.offer q y s e in (o.0, part_kept (λ (z : Row). z.offered) w p r l refl q ∙ o.1, builds q (offers q) ∙ o.2);
+          close = λ q s e. let o = h.noted.close q s e in (o.0, λ k. part_kept (λ (z : Row). z.closing) w p r l refl q ∙ o.1 k);
+        };
       }
 
 -- a keeper's step that changes no version, and no offer or close but by ending it
@@ -187,10 +240,9 @@ shaped_keeps n i e = record {
   most = i.most;
   few = i.few;
   «same» = e ∙ i.«same»;
+  seats = i.seats;
   reads = i.reads;
   builds = i.builds;
-  offers = i.offers;
-  closes = i.closes;
   vacant = i.vacant;
 }
 
@@ -199,8 +251,8 @@ pub same_versions : {T : Type 0} {version : ℕ → Tree T} {rd bd : ℕ → ℕ
     → (s : ℕ) → 0 < times_kept s vs → Stands w.cells w.leaves (field.Cell (root_at s vs)) (version s)
 same_versions {version = version} {w = w} vs e i s k = subst (λ (x : List Version). Stands w.cells w.leaves (field.Cell (root_at s x)) (version s)) (sym e) (i.versions s (subst (λ (x : List Version). 0 < times_kept s x) e k))
 
-pub sound_keeps : {T : Type 0} (w : World T) (vs : List Version) → vs ≡ w.keeper.kept → Sound (memory_of w) (names w) → Sound (memory_of w) (map (λ (v : Version). v.root) vs ++ cells_in w.building)
-sound_keeps w vs e s = subst (λ (x : List Version). Sound (memory_of w) (map (λ (v : Version). v.root) x ++ cells_in w.building)) (sym e) s
+pub sound_keeps : {T : Type 0} (w : World T) (vs : List Version) → vs ≡ w.keeper.kept → Sound (memory_of w) (names w) → Sound (memory_of w) (map (λ (v : Version). v.root) vs ++ built_in w.rows)
+sound_keeps w vs e s = subst (λ (x : List Version). Sound (memory_of w) (map (λ (v : Version). v.root) x ++ built_in w.rows)) (sym e) s
 
 pub held_quiet : {T : Type 0} {version : ℕ → Tree T} {rd bd : ℕ → ℕ → Tree T} {offers : ℕ → ℕ} {w : World T} (n : Meaning) → Held version rd bd offers w → Quiet w.keeper n → Held version rd bd offers (keeping n w)
 held_quiet {version = version} {w = w} n h q = record {

@@ -1,6 +1,6 @@
 -- In every reached world the keeper means, and the cells hold, what the run tells.
-use Rattle.std.proofs.Common.{◌≡◌, ℕ, zero, suc, ◌+◌, ◌*◌, ◌<◌, Bool, true, false, cond, ◌&&◌, eqb, ltb, leb, List, [], ◌∷◌, length, get_or, set, replicate, Some, None, Ok, Option, Result, sym, refl, ap, ◌∙◌, subst, ⊎_elim, arith}
-use Rattle.std.proofs.lemmas.List.{length-set}
+use Rattle.std.proofs.Common.{◌≡◌, ℕ, zero, suc, ◌+◌, ◌<◌, Bool, true, false, cond, ◌&&◌, eqb, ltb, leb, List, [], ◌∷◌, length, get_or, set, replicate, Some, None, Ok, Option, Result, sym, refl, ap, ◌∙◌, subst, ⊎_elim, arith}
+use Rattle.std.proofs.lemmas.List.{length-set, get_or-replicate}
 use Rattle.std.proofs.lemmas.Bool.{cases_eq, cases_lt, eq-eqb, eqb-true, leb-true, ltb-true, and_parts, cond_both}
 use Rattle.keeper.specs.declared.version.Version.{Version}
 use Rattle.keeper.specs.declared.stage.Stage.{Stage}
@@ -26,13 +26,14 @@ use Rattle.cells_theory.proofs.Counts.{sound_like}
 use Rattle.cells_theory.proofs.Frames.{onward}
 use Rattle.cells_theory.proofs.Looking.{field_promises, child_stands}
 use Rattle.cells_theory.proofs.Making.{make_promises}
+use Rattle.exchange_theory.specs.declared.row.Row.{Row}
 use Rattle.exchange_theory.specs.declared.column.Column.TheVariants as column
 use Rattle.exchange_theory.specs.declared.calls.Source.{Source}
 use Rattle.exchange_theory.specs.declared.calls.Source.TheVariants as source
 use Rattle.exchange_theory.specs.declared.calls.Call.{Call}
 use Rattle.exchange_theory.specs.declared.calls.Call.TheVariants.{Open as CallOpen, Publish, Close, Step, Root, Down, Look, Build, Sweep}
 use Rattle.exchange_theory.specs.declared.calls.Answer.{Answer}
-use Rattle.exchange_theory.specs.World.{World, reading_at, building_at, memory_of, keeping}
+use Rattle.exchange_theory.specs.World.{World, row, emptied, row_at, reading_at, building_at, memory_of, keeping}
 use Rattle.exchange_theory.specs.Table.{allows}
 use Rattle.exchange_theory.specs.Order.{filled, passing, fault_of, refuse}
 use Rattle.exchange_theory.specs.Keeping.{Opens, Publishes, Closes, Steps, OpenBegins, CloseBegins, StepTakes, settles}
@@ -46,7 +47,8 @@ use Rattle.exchange_theory.specs.Promises.{names}
 use Rattle.exchange_theory.proofs.Accepted.{Admitted, admitted, by_begun, by_stepped, by_done, by_shown, by_swept}
 use Rattle.exchange_theory.proofs.Meant.{opened_at, MeantBy, kept_low, begun_stage, begun_frame, rebinds_opened}
 use Rattle.exchange_theory.proofs.Told.{opens_idle, publishes_open, ready, meant_start, meant_call}
-use Rattle.exchange_theory.proofs.Naming.{name_by, is_root, names_are}
+use Rattle.exchange_theory.proofs.Rows.{all_none}
+use Rattle.exchange_theory.proofs.Naming.{is_root, names_in, names_are}
 use Rattle.exchange_theory.proofs.Held.{Held, HeldBy, held_quiet, quiet_moves, rest_offers_not, rest_closes_not, root_told, read_live, built_live, held_reads, rebinds_offering, rebinds_closing}
 use Rattle.exchange_theory.proofs.Changes.{held_publish, held_sweep, held_build}
 use Rattle.exchange_theory.proofs.Ends.{held_accepted, held_out, held_closed}
@@ -70,12 +72,12 @@ one_kept (v ∷ vs) h e d =
     absurd (omega (arith, h v.serial (omega (arith, ne)), k)))
     (cases_eq v.serial 0)
 
-all_none : (n i : ℕ) → ◌≡◌ {A = Option ℕ} (get_or (replicate n None) i None) None
-all_none zero i = refl
-all_none (suc n) zero = refl
-all_none (suc n) (suc i) = all_none n i
+no_row : (n p b : ℕ) → ◌≡◌ {A = Option ℕ} (get_or (get_or (replicate n (emptied 0 0)) p (row [] [] 0 0)).building b None) None
+no_row zero p b = refl
+no_row (suc n) zero b = all_none 8 b
+no_row (suc n) (suc p) b = no_row n p b
 
-none_named : (n d : ℕ) → total (name_by d) (replicate n None) ≡ 0
+none_named : (n d : ℕ) → total (names_in d) (replicate n (emptied 0 0)) ≡ 0
 none_named zero d = refl
 none_named (suc n) d = omega (arith, none_named n d)
 
@@ -99,8 +101,11 @@ held_start {T} leaf ls w f laws =
     let k = make_promises leaf w.heads w.cells ls w.leaves f.heads f.cells f.leaves some (omega (arith, most)) (omega (arith, long, some)) in
     let zero_kept : times_kept 0 m.kept ≡ 1 = omega (arith, i.kept 0 (omega arith)) in
     let root : root_at 0 m.kept ≡ 0 = one_root (version 0 (root_at 0 m.kept)) m.current m.kept (sym r.serial) (laws.once 0) (first_kept 0 m.kept (omega (arith, zero_kept))) laws.current ∙ r.root in
+    let at_first : (p : ℕ) → p < 8 → row_at w p ≡ emptied 0 0 = λ p l. ap (λ (rs : List Row). get_or rs p (row [] [] 0 0)) f.rows ∙ get_or-replicate 8 p (emptied 0 0) (row [] [] 0 0) l in
+    let unread : (p a : ℕ) → p < 8 → reading_at w p a ≡ None = λ p a l. ap (λ (x : Row). get_or x.reading a None) (at_first p l) ∙ all_none 8 a in
+    let unbuilt : (p b : ℕ) → building_at w p b ≡ None = λ p b. ap (λ (rs : List Row). get_or (get_or rs p (row [] [] 0 0)).building b None) f.rows ∙ no_row 8 p b in
     let ns : (d : ℕ) → times d (names w) ≡ times d (0 ∷ []) = λ d.
-    let t : total (name_by d) w.building ≡ 0 = ap (total (name_by d)) f.building ∙ none_named 64 d in
+    let t : total (names_in d) w.rows ≡ 0 = ap (total (names_in d)) f.rows ∙ none_named 8 d in
     omega (arith, names_are w d, t, one_kept m.kept (λ s l. (i.beyond s l).0) zero_kept d, ap (same d) root) in
     record {
       shaped = record {
@@ -109,20 +114,19 @@ held_start {T} leaf ls w f laws =
         most = omega (arith, most, f.size);
         few = omega (arith, few, f.programs);
         «same» = sym f.programs;
-        reads = ap length f.reading;
-        builds = ap length f.building;
-        offers = ap length f.offered;
-        closes = ap length f.closing;
-        vacant = λ j l. ap (λ (os : List (Option ℕ)). get_or os j None) f.building ∙ all_none 64 j;
+          seats = ap length f.rows;
+        reads = λ p l. ap (λ (x : Row). length x.reading) (at_first p l);
+        builds = λ p l. ap (λ (x : Row). length x.building) (at_first p l);
+        vacant = λ p b _. unbuilt p b;
       };
       sound = sound_like (memory_of w) (0 ∷ []) (names w) ns k.sound;
       stood = record {
         versions = λ s x. ⊎_elim (λ l. absurd (omega (arith, (i.beyond s l).0, x)))
             (λ l. let q : s ≡ 0 = omega (arith, l) in
             subst (λ (y : ℕ). Stands w.cells w.leaves (field.Cell y) (node leaf empty empty empty empty)) (sym (ap (λ y. root_at y m.kept) q ∙ root)) k.stands) (cases_lt 0 s);
-        built = λ p b lp lb. subst (λ (o : Option ℕ). Stands {T = T} w.cells w.leaves (placed o) empty) (sym (ap (λ (os : List (Option ℕ)). get_or os (8 * p + b) None) f.building ∙ all_none 64 (8 * p + b))) tt;
-        read = λ p b lp lb. subst (λ (o : Option ℕ). Stands {T = T} w.cells w.leaves (placed o) empty) (sym (ap (λ (os : List (Option ℕ)). get_or os (8 * p + b) None) f.reading ∙ all_none 64 (8 * p + b))) tt;
-        reached = λ p b d lp lb g. let q : None ≡ Some d = sym (ap (λ (os : List (Option ℕ)). get_or os (8 * p + b) None) f.reading ∙ all_none 64 (8 * p + b)) ∙ g in let z : ◌≡◌ {A = ℕ} 0 1 = cc in absurd (omega arith);
+        built = λ p b lp lb. subst (λ (o : Option ℕ). Stands {T = T} w.cells w.leaves (placed o) empty) (sym (unbuilt p b)) tt;
+        read = λ p a lp la. subst (λ (o : Option ℕ). Stands {T = T} w.cells w.leaves (placed o) empty) (sym (unread p a lp)) tt;
+        reached = λ p a d lp la g. let q : None ≡ Some d = sym (unread p a lp) ∙ g in let z : ◌≡◌ {A = ℕ} 0 1 = cc in absurd (omega arith);
       };
       noted = record {
         offer = λ p x s g. absurd (rest_offers_not Idle (stage_of m p) x s refl (r.resting p) g);
@@ -159,19 +163,19 @@ four x y z u e = let a = and_parts x (y && (z && u)) e in let b = and_parts y (z
 
 module _ {T : Type 0} (S : Story T) (w : World T) (laws : Laws w.keeper) (i : MeantBy S w.keeper) (h : HeldBy S w) where
   -- the sources of a build
-  source_live : (p : ℕ) (s : Source) (c : ℕ) → p < 8 → ranged s ≡ true → field_from w p s ≡ field.Cell c → Live (memory_of w) c
+  source_live : (p : ℕ) (s : Source) (c : ℕ) → p < 8 → ranged s ≡ true → field_from (row_at w p) s ≡ field.Cell c → Live (memory_of w) c
   source_live p source.Empty c lp g e = let z : ◌≡◌ {A = ℕ} 0 1 = cc in absurd (omega arith)
   source_live p (source.Number n) c lp g e = let z : ◌≡◌ {A = ℕ} 0 1 = cc in absurd (omega arith)
   source_live p (source.Reading a) c lp g e = read_live S.version S.reading S.building S.offers w laws h p a c lp (ltb-true a 8 g) (placed_some (reading_at w p a) c e)
   source_live p (source.Building b) c lp g e = built_live S.version S.reading S.building S.offers w laws h p b c lp (ltb-true b 8 g) (placed_some (building_at w p b) c e)
 
-  source_stands : (p : ℕ) (s : Source) → p < 8 → ranged s ≡ true → Stands w.cells w.leaves (field_from w p s) (sourced S p s)
+  source_stands : (p : ℕ) (s : Source) → p < 8 → ranged s ≡ true → Stands w.cells w.leaves (field_from (row_at w p) s) (sourced S p s)
   source_stands p source.Empty lp g = tt
   source_stands p (source.Number n) lp g = refl
   source_stands p (source.Reading a) lp g = h.stood.read p a lp (ltb-true a 8 g)
   source_stands p (source.Building b) lp g = h.stood.built p b lp (ltb-true b 8 g)
 
-  pub sources_live : (p : ℕ) (ss : List Source) → p < 8 → all_ranged ss ≡ true → LiveFields (memory_of w) (fields_from w p ss)
+  pub sources_live : (p : ℕ) (ss : List Source) → p < 8 → all_ranged ss ≡ true → LiveFields (memory_of w) (fields_from (row_at w p) ss)
   sources_live p ss lp g zero c l e = source_live p (src ss 0) c lp (four (ranged (src ss 0)) (ranged (src ss 1)) (ranged (src ss 2)) (ranged (src ss 3)) g).0 e
   sources_live p ss lp g (suc zero) c l e = source_live p (src ss 1) c lp (four (ranged (src ss 0)) (ranged (src ss 1)) (ranged (src ss 2)) (ranged (src ss 3)) g).1 e
   sources_live p ss lp g (suc (suc zero)) c l e = source_live p (src ss 2) c lp (four (ranged (src ss 0)) (ranged (src ss 1)) (ranged (src ss 2)) (ranged (src ss 3)) g).2 e
@@ -259,7 +263,7 @@ module _ {T : Type 0} (S : Story T) (w : World T) (laws : Laws w.keeper) (i : Me
       subst (λ (y : Tree T). Stands w.cells w.leaves (field.Cell o.root) y) (sym tree)
       (subst (λ (c : ℕ). Stands w.cells w.leaves (field.Cell c) (S.version t.0)) (sym t.2) (h.stood.versions t.0 t.3)) in
       subst (λ (x : World T). HeldBy (reads p a (tree_of S (S.opened p)) S) x) (sym o.after)
-      (held_reads S.version S.reading S.building S.offers w laws h p a o.root (tree_of S (S.opened p)) (eight p g.program) (ltb-true a 8 g.range) st
+      (held_reads S.version S.reading S.building S.offers w laws h p a o.root (tree_of S (S.opened p)) g.program (ltb-true a 8 g.range) st
       (t.0, t.1, subst (λ (c : ℕ). Reaches w.cells (root_at t.0 kept) c) (sym t.2) here))
 
   -- following a field of a live cell
@@ -283,17 +287,17 @@ module _ {T : Type 0} (S : Story T) (w : World T) (laws : Laws w.keeper) (i : Me
       let path = h.stood.reached p a o.from lp la o.start in
       let lower = (field_promises w.cells o.from k (Ok (field.Cell o.to)) (sym o.along)).reached o.to refl in
       subst (λ (x : World T). HeldBy (reads p b (child k (S.reading p a)) S) x) (sym o.after)
-      (held_reads S.version S.reading S.building S.offers w laws h p b o.to (child k (S.reading p a)) lp lb st
+      (held_reads S.version S.reading S.building S.offers w laws h p b o.to (child k (S.reading p a)) g.program lb st
       (path.0, path.1, onward w.cells (root_at path.0 w.keeper.kept) o.from o.to path.2 lower))
 
-  held_built : (v : World T) (p b : ℕ) (ss : List Source) (leaf : T) → Admitted w p (ltb b 8 && all_ranged ss) column.Build (refuse (all_given w p ss) PlaceEmpty (fault_of (new_cell w p ss))) → BuildsCell p b ss leaf w v
+  held_built : (v : World T) (p b : ℕ) (ss : List Source) (leaf : T) → Admitted w p (ltb b 8 && all_ranged ss) column.Build (refuse (all_given (row_at w p) ss) PlaceEmpty (fault_of (new_cell w p ss))) → BuildsCell p b ss leaf w v
       → HeldBy (builds p b (tree_from S p ss leaf) S) v
   held_built v p b ss leaf g o =
       let r = and_parts (ltb b 8) (all_ranged ss) g.range in
       let lp = eight p g.program in
       let f = four (ranged (src ss 0)) (ranged (src ss 1)) (ranged (src ss 2)) (ranged (src ss 3)) r.1 in
       subst (λ (x : World T). HeldBy (builds p b (tree_from S p ss leaf) S) x) (sym o.after)
-      (held_build S.version S.reading S.building S.offers w laws h p b o.cell (fields_from w p ss) leaf
+      (held_build S.version S.reading S.building S.offers w laws h p b o.cell (fields_from (row_at w p) ss) leaf
       (sourced S p (src ss 0)) (sourced S p (src ss 1)) (sourced S p (src ss 2)) (sourced S p (src ss 3)) g.program (ltb-true b 8 r.0)
       (λ x s e. build_offers_not (stage_of w.keeper p) x s g.allowed e) (sources_live p ss lp r.1)
       (source_stands p (src ss 0) lp f.0) (source_stands p (src ss 1) lp f.1) (source_stands p (src ss 2) lp f.2) (source_stands p (src ss 3) lp f.3) o.new)
@@ -333,7 +337,7 @@ module _ {T : Type 0} (S : Story T) (w : World T) (laws : Laws w.keeper) (i : Me
       (λ f e. subst (λ (x : World T). HeldBy S x) (sym e.1) h)
   held_call v (Build p b ss leaf) r lawn d =
       by_done (λ x. Builds p b ss leaf x w v) (λ x. HeldBy (tell (Build p b ss leaf) x S) v) r d
-      (λ x o. held_built v p b ss leaf (admitted w p (ltb b 8 && all_ranged ss) column.Build (refuse (all_given w p ss) PlaceEmpty (fault_of (new_cell w p ss))) o.0) o.1)
+      (λ x o. held_built v p b ss leaf (admitted w p (ltb b 8 && all_ranged ss) column.Build (refuse (all_given (row_at w p) ss) PlaceEmpty (fault_of (new_cell w p ss))) o.0) o.1)
       (λ f e. subst (λ (x : World T). HeldBy S x) (sym e.1) h)
   held_call v Sweep r lawn d =
       by_swept (λ x. Sweeps x w v) (λ x. HeldBy (tell Sweep x S) v) r d

@@ -1,4 +1,5 @@
 pub mod Insides
+pub mod Rows
 pub mod Accepted
 pub mod Meant
 pub mod Told

@@ -1,18 +1,20 @@
 -- How often the outside names a cell: by kept roots and by building places.
 use Rattle.std.proofs.Common.{◌≡◌, ℕ, zero, suc, ◌+◌, ◌*◌, ◌<◌, ◌≤◌, cond, eqb, List, [], ◌∷◌, ◌++◌, map, length, get_or, set, Some, None, Option, sym, refl, ap, ◌∙◌, subst, ⊎_elim, arith}
-use Rattle.std.proofs.lemmas.List.{get_or-set_same, get_or-set_other, length-map, length-append}
+use Rattle.std.proofs.lemmas.List.{length-map, length-append}
 use Rattle.std.proofs.lemmas.Bool.{cases_eq, eq-eqb, ne_eqb, and_from, and_left, and_right}
 use Rattle.keeper.specs.declared.version.Version.{Version}
 use Rattle.keeper.specs.declared.stage.Stage.{Stage}
 use Rattle.keeper.specs.Totals.{total, Added}
+use Rattle.keeper.proofs.Totals.{total_set}
 use Rattle.keeper.specs.Stages.{engaged, named, uses}
 use Rattle.keeper.specs.Meaning.{Meaning, Laws, version, is_serial, times as times_kept, root_at}
 use Rattle.cells_theory.specs.Memory.{same}
 use Rattle.cells_theory.specs.Sound.{times}
 use Rattle.cells_theory.proofs.Counting.{same_is}
-use Rattle.exchange_theory.specs.World.{World}
+use Rattle.exchange_theory.specs.declared.row.Row.{Row}
+use Rattle.exchange_theory.specs.World.{World, row, row_building, row_at, building_at}
 use Rattle.exchange_theory.specs.Story.{at_place}
-use Rattle.exchange_theory.specs.Promises.{cells_in, names}
+use Rattle.exchange_theory.specs.Promises.{cells_in, built_in, names}
 
 -- 1 where a place names cell c, and where a version's root is c
 abbrev pub name_by : ℕ → Option ℕ → ℕ
@@ -22,7 +24,7 @@ name_by c (Some d) = same c d
 abbrev pub is_root : ℕ → Version → ℕ
 is_root c v = same c v.root
 
-times_append : (c : ℕ) (xs ys : List ℕ) → times c (xs ++ ys) ≡ times c xs + times c ys
+pub times_append : (c : ℕ) (xs ys : List ℕ) → times c (xs ++ ys) ≡ times c xs + times c ys
 times_append c [] ys = omega arith
 times_append c (x ∷ xs) ys = omega (arith, times_append c xs ys)
 
@@ -30,13 +32,30 @@ times_roots : (c : ℕ) (vs : List Version) → times c (map (λ (v : Version). 
 times_roots c [] = refl
 times_roots c (v ∷ vs) = omega (arith, times_roots c vs)
 
-times_places : (c : ℕ) (os : List (Option ℕ)) → times c (cells_in os) ≡ total (name_by c) os
+pub times_places : (c : ℕ) (os : List (Option ℕ)) → times c (cells_in os) ≡ total (name_by c) os
 times_places c [] = refl
 times_places c (None ∷ os) = omega (arith, times_places c os)
 times_places c (Some d ∷ os) = omega (arith, times_places c os)
 
-pub names_are : {T : Type 0} (w : World T) (c : ℕ) → times c (names w) ≡ total (is_root c) w.keeper.kept + total (name_by c) w.building
-names_are w c = omega (arith, times_append c (map (λ (v : Version). v.root) w.keeper.kept) (cells_in w.building), times_roots c w.keeper.kept, times_places c w.building)
+-- how often the building places of a row name cell c
+abbrev pub names_in : ℕ → Row → ℕ
+names_in c r = total (name_by c) r.building
+
+times_rows : (c : ℕ) (rs : List Row) → times c (built_in rs) ≡ total (names_in c) rs
+times_rows c [] = refl
+times_rows c (r ∷ rs) = omega (arith, times_append c (cells_in r.building) (built_in rs), times_places c r.building, times_rows c rs)
+
+pub names_are : {T : Type 0} (w : World T) (c : ℕ) → times c (names w) ≡ total (is_root c) w.keeper.kept + total (names_in c) w.rows
+names_are w c = omega (arith, times_append c (map (λ (v : Version). v.root) w.keeper.kept) (built_in w.rows), times_roots c w.keeper.kept, times_rows c w.rows)
+
+-- another row for program p
+pub names_row : {T : Type 0} (w : World T) (p : ℕ) (r : Row) → p < length w.rows → (c : ℕ) → total (names_in c) (set w.rows p r) + names_in c (row_at w p) ≡ total (names_in c) w.rows + names_in c r
+names_row w p r l c = total_set (names_in c) w.rows p r (row [] [] 0 0) l
+
+-- another name in building place b of program p
+pub names_place : {T : Type 0} (w : World T) (p b : ℕ) (o : Option ℕ) → p < length w.rows → b < length (row_at w p).building
+    → (c : ℕ) → total (names_in c) (set w.rows p (row_building b o (row_at w p))) + name_by c (building_at w p b) ≡ total (names_in c) w.rows + name_by c o
+names_place w p b o l lb c = omega (arith, names_row w p (row_building b o (row_at w p)) l c, total_set (name_by c) (row_at w p).building b o None lb)
 
 -- the root of a kept version is named
 pub root_named : (s : ℕ) (vs : List Version) → 0 < times_kept s vs → 0 < total (is_root (root_at s vs)) vs
@@ -97,12 +116,21 @@ pub times_new : (t r : ℕ) (vs us : List Version) → Added (version t r) vs us
 times_new t r vs us a = let z : is_serial t (version t r) ≡ 1 = ap {B = ℕ} (λ b. cond b 1 0) (eq-eqb t t refl) in omega (arith, a (is_serial t), z)
 
 -- at most so many places name a cell
-pub few_cells : (os : List (Option ℕ)) (n : ℕ) → ((i : ℕ) → n ≤ i → get_or os i None ≡ None) → length (cells_in os) ≤ n
+few_cells : (os : List (Option ℕ)) (n : ℕ) → ((i : ℕ) → n ≤ i → get_or os i None ≡ None) → length (cells_in os) ≤ n
 few_cells [] n h = omega arith
 few_cells (None ∷ os) zero h = few_cells os 0 (λ i l. h (suc i) (omega arith))
 few_cells (None ∷ os) (suc n) h = omega (arith, few_cells os n (λ i l. h (suc i) (omega arith)))
 few_cells (Some c ∷ os) zero h = let e = h 0 (omega arith) in let z : ◌≡◌ {A = ℕ} 0 1 = cc in absurd (omega arith)
 few_cells (Some c ∷ os) (suc n) h = omega (arith, few_cells os n (λ i l. h (suc i) (omega arith)))
+
+-- the first n rows have eight building places each, and those after them name nothing
+few_built : (rs : List Row) (n : ℕ) → ((p b : ℕ) → 8 ≤ b → get_or (get_or rs p (row [] [] 0 0)).building b None ≡ None) → ((p b : ℕ) → n ≤ p → get_or (get_or rs p (row [] [] 0 0)).building b None ≡ None)
+    → length (built_in rs) ≤ 8 * n
+few_built [] n h v = omega arith
+few_built (r ∷ rs) zero h v =
+    omega (arith, length-append (cells_in r.building) (built_in rs), few_cells r.building 0 (λ i l. v 0 i (omega arith)), few_built rs 0 (λ p. h (suc p)) (λ p b l. v (suc p) b (omega arith)))
+few_built (r ∷ rs) (suc n) h v =
+    omega (arith, length-append (cells_in r.building) (built_in rs), few_cells r.building 8 (λ i l. h 0 i l), few_built rs n (λ p. h (suc p)) (λ p b l. v (suc p) b (omega arith)))
 
 -- at most P + 1 versions are kept: each but the current one is used by a program, and a program uses one at most
 swap : (vs : List Version) (sts : List Stage) → total (λ (v : Version). total (uses v.serial) sts) vs ≡ total (λ st. total (λ (v : Version). uses v.serial st) vs) sts
@@ -161,10 +189,10 @@ few_kept m laws =
       laws.staged,
     )
 
-pub few_names : {T : Type 0} (w : World T) → Laws w.keeper → ((i : ℕ) → 8 * w.programs ≤ i → get_or w.building i None ≡ None) → w.keeper.programs ≡ w.programs
-    → length (names w) ≤ 8 * w.programs + (w.programs + 1)
-few_names w laws vacant e =
-    omega (arith, length-append (map (λ (v : Version). v.root) w.keeper.kept) (cells_in w.building), length-map w.keeper.kept (λ (v : Version). v.root), few_kept w.keeper laws, few_cells w.building (8 * w.programs) vacant, e)
+pub few_names : {T : Type 0} (w : World T) → Laws w.keeper → ((p b : ℕ) → 8 ≤ b → building_at w p b ≡ None) → ((p b : ℕ) → w.programs ≤ p → building_at w p b ≡ None)
+    → w.keeper.programs ≡ w.programs → length (names w) ≤ 8 * w.programs + (w.programs + 1)
+few_names w laws eight vacant e =
+    omega (arith, length-append (map (λ (v : Version). v.root) w.keeper.kept) (built_in w.rows), length-map w.keeper.kept (λ (v : Version). v.root), few_kept w.keeper laws, few_built w.rows w.programs eight vacant, e)
 
 -- a table of places after one was written
 pub place_same : {A : Type 0} (f : ℕ → ℕ → A) (p a : ℕ) (x : A) (q b : ℕ) → q ≡ p → b ≡ a → at_place f p a x q b ≡ x
@@ -177,19 +205,19 @@ place_other f p a x q b n =
     (λ ne. ap (λ t. cond t x (f q b)) (and_left (eqb q p) (eqb b a) (ne_eqb q p ne)))
     (cases_eq q p)
 
-pub on_place : {A : Type 0} (P : Option ℕ → A → Type 0) (os : List (Option ℕ)) (f : ℕ → ℕ → A) (p a : ℕ) (o : Option ℕ) (x : A) → 8 * p + a < length os → a < 8 → P o x
-    → (q b : ℕ) → b < 8 → P (get_or os (8 * q + b) None) (f q b) → P (get_or (set os (8 * p + a) o) (8 * q + b) None) (at_place f p a x q b)
-on_place {A} P os f p a o x l la new q b lb old =
+-- what holds of each place and its tree holds after place a of program p was written
+pub on_place : {A : Type 0} (P : Option ℕ → A → Type 0) (old new : ℕ → ℕ → Option ℕ) (f : ℕ → ℕ → A) (p a : ℕ) (o : Option ℕ) (x : A)
+    → new p a ≡ o → ((q b : ℕ) → (q ≡ p → b ≡ a → ⊥) → new q b ≡ old q b) → P o x
+    → (q b : ℕ) → P (old q b) (f q b) → P (new q b) (at_place f p a x q b)
+on_place {A} P old new f p a o x own apart fresh q b before =
     ⊎_elim (λ e. ⊎_elim (λ g. here e g) (λ ne. there (λ e g. ne g)) (cases_eq b a)) (λ ne. there (λ e g. ne e)) (cases_eq q p)
   where
-    here : q ≡ p → b ≡ a → P (get_or (set os (8 * p + a) o) (8 * q + b) None) (at_place f p a x q b)
+    here : q ≡ p → b ≡ a → P (new q b) (at_place f p a x q b)
     here e g =
-        let j : 8 * q + b ≡ 8 * p + a = omega (arith, e, g) in
-        subst (λ (y : A). P (get_or (set os (8 * p + a) o) (8 * q + b) None) y) (sym (place_same f p a x q b e g))
-        (subst (λ (z : Option ℕ). P z x) (sym (ap (λ i. get_or (set os (8 * p + a) o) i None) j ∙ get_or-set_same os (8 * p + a) o None l)) new)
+        subst (λ (y : A). P (new q b) y) (sym (place_same f p a x q b e g))
+        (subst (λ (z : Option ℕ). P z x) (sym (ap (λ i. new i b) e ∙ ap (new p) g ∙ own)) fresh)
 
-    there : (q ≡ p → b ≡ a → ⊥) → P (get_or (set os (8 * p + a) o) (8 * q + b) None) (at_place f p a x q b)
+    there : (q ≡ p → b ≡ a → ⊥) → P (new q b) (at_place f p a x q b)
     there n =
-        let j : 8 * q + b ≡ 8 * p + a → ⊥ = λ e. let e1 : q ≡ p = omega (arith, e) in let e2 : b ≡ a = omega (arith, e) in n e1 e2 in
-        subst (λ (y : A). P (get_or (set os (8 * p + a) o) (8 * q + b) None) y) (sym (place_other f p a x q b n))
-        (subst (λ (z : Option ℕ). P z (f q b)) (sym (get_or-set_other os (8 * p + a) (8 * q + b) o None j)) old)
+        subst (λ (y : A). P (new q b) y) (sym (place_other f p a x q b n))
+        (subst (λ (z : Option ℕ). P z (f q b)) (sym (apart q b n)) before)

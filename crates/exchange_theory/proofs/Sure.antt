@@ -26,7 +26,7 @@ use Rattle.exchange_theory.specs.declared.calls.Call.{Call}
 use Rattle.exchange_theory.specs.declared.calls.Call.TheVariants.{Open as CallOpen, Publish, Close, Step, Root, Down, Look, Build, Sweep}
 use Rattle.exchange_theory.specs.declared.calls.Answer.{Answer}
 use Rattle.exchange_theory.specs.declared.calls.Answer.TheVariants as answer
-use Rattle.exchange_theory.specs.World.{World, reading_at, building_at, memory_of}
+use Rattle.exchange_theory.specs.World.{World, row_at, reading_at, building_at, memory_of}
 use Rattle.exchange_theory.specs.Table.{allows}
 use Rattle.exchange_theory.specs.Order.{filled, passing, fault_of, refuse, sized, admits}
 use Rattle.exchange_theory.specs.Keeping.{Opens, Publishes, Closes, Steps, open_refusal, publish_refusal, close_refusal, step_refusal}
@@ -39,7 +39,7 @@ use Rattle.exchange_theory.specs.Promises.{names, SeenAs, LookIsTrue, NotDamaged
 use Rattle.exchange_theory.proofs.Accepted.{admitted, by_begun, by_stepped, by_done, by_shown, by_swept}
 use Rattle.exchange_theory.proofs.Meant.{MeantBy}
 use Rattle.exchange_theory.proofs.Naming.{few_names}
-use Rattle.exchange_theory.proofs.Held.{HeldBy, read_live, version_live}
+use Rattle.exchange_theory.proofs.Held.{HeldBy, eight_places, read_live, version_live}
 use Rattle.exchange_theory.proofs.Invariant.{sources_live, root_path, follows}
 
 -- there is no refusal, or another than 16
@@ -180,13 +180,13 @@ module _ {T : Type 0} (S : Story T) (w : World T) (laws : Laws w.keeper) (i : Me
   look_clean p a = clean_admits w p (ltb a 8) column.Look (look_fault w.cells w.leaves (reading_at w p a)) (λ lp la seat al. clean_look p a (reading_at w p a) refl (eight p lp) (ltb-true a 8 la))
 
   pub names_few : length (names w) ≤ 8 * w.programs + (w.programs + 1)
-  names_few = few_names w laws h.shaped.vacant h.shaped.«same»
+  names_few = few_names w laws (eight_places w h.shaped) h.shaped.vacant h.shaped.«same»
 
   build_clean : (p b : ℕ) (ss : List Source) (leaf : T) → Clean (build_refusal w p b ss)
-  build_clean p b ss leaf = clean_admits w p (ltb b 8 && all_ranged ss) column.Build (refuse (all_given w p ss) PlaceEmpty (fault_of (new_cell w p ss)))
-      (λ lp rg seat al. clean_refuse (all_given w p ss) PlaceEmpty (fault_of (new_cell w p ss)) place_empty (λ _. clean_fault (new_cell w p ss) (λ f e d.
+  build_clean p b ss leaf = clean_admits w p (ltb b 8 && all_ranged ss) column.Build (refuse (all_given (row_at w p) ss) PlaceEmpty (fault_of (new_cell w p ss)))
+      (λ lp rg seat al. clean_refuse (all_given (row_at w p) ss) PlaceEmpty (fault_of (new_cell w p ss)) place_empty (λ _. clean_fault (new_cell w p ss) (λ f e d.
       let x = and_parts (ltb b 8) (all_ranged ss) rg in
-      let q : f ≡ no_free_cell = build_promises (fields_from w p ss) leaf (memory_of w) w.leaves (Err f) (memory_of w) w.leaves (sym e) refl refl (names w) h.sound
+      let q : f ≡ no_free_cell = build_promises (fields_from (row_at w p) ss) leaf (memory_of w) w.leaves (Err f) (memory_of w) w.leaves (sym e) refl refl (names w) h.sound
       (sources_live S w laws i h p ss (eight p lp) x.1) (omega (arith, h.shaped.cells_fit, h.shaped.leaves_fit)) (omega (arith, names_few, h.shaped.cells_fit, h.shaped.most, h.shaped.few)) in
       no_free_cell_not_damaged (sym (ap (λ (y : Fault). y.refusal) q) ∙ d))))
 

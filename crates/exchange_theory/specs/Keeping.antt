@@ -1,12 +1,12 @@
 -- The calls that turn to the keeper: open, publish, close and step.
-use Rattle.std.specs.Prelude.{◌≡◌, ℕ, ◌+◌, ◌*◌, true, Some, None, Ok, Option, Result, nat_lt, slice_index, slice_set}
+use Rattle.std.specs.Prelude.{◌≡◌, ℕ, true, Some, None, Ok, Option, Result, nat_lt}
 use Rattle.keeper.specs.declared.outcome.Outcome.{Outcome}
 use Rattle.keeper.specs.declared.outcome.Outcome.TheVariants.{GoesOn, Opened, Accepted, Stale, Nothing, HandedOut}
 use Rattle.keeper.specs.declared.fault.Fault.{Fault}
 use Rattle.keeper.specs.Effects.{open_fault, publish_fault, close_fault, step_fault, root_answer, OpenDone, PublishDone, CloseDone, StepDone}
 use Rattle.cells_theory.specs.LetGo.{let_go}
 use Rattle.exchange_theory.specs.declared.column.Column.TheVariants as column
-use Rattle.exchange_theory.specs.World.{World, building_at, memory_of, keeping, reading, building, storing, offering, closing, emptied, let_go_places}
+use Rattle.exchange_theory.specs.World.{World, row_at, building_at, offered_at, closed_at, memory_of, keeping, building, storing, offering, closing, let_go_places}
 use Rattle.exchange_theory.specs.Order.{passing, fault_of, filled, admits, Turns}
 
 -- open: refused as every call is, and as the keeper refuses
@@ -45,7 +45,7 @@ pub record CloseBegins {T : Type 0} (p : ℕ) (w v : World T) : Type 0 where
   pub root : ℕ
   pub had : root_answer w.keeper p ≡ Ok root
   pub keeper : CloseDone w.keeper p v.keeper
-  pub after : v ≡ closing p root (reading (emptied p 8 w.reading) (building (emptied p 8 w.building) (storing (let_go_places p 8 w.building (memory_of w)) (keeping v.keeper w))))
+  pub after : v ≡ closing p root (storing (let_go_places (row_at w p).building (memory_of w)) (keeping v.keeper w))
 
 abbrev pub Closes : {T : Type 0} → ℕ → Result (Unit {0}) Fault → World T → World T → Type 0
 Closes p r w v = Turns (close_refusal w p) w v (λ _. CloseBegins p w v) r
@@ -59,10 +59,10 @@ step_refusal w p = admits w p true column.Step (step_fault w.keeper p)
 abbrev pub settles : {T : Type 0} → Outcome → ℕ → World T → World T
 settles GoesOn p w = w
 settles (Opened s) p w = w
-settles (Accepted s) p w = building (slice_set w.building (8 * p + slice_index w.offered p) None) w
+settles (Accepted s) p w = building p (offered_at w p) None w
 settles Stale p w = w
 settles Nothing p w = w
-settles (HandedOut s) p w = storing (let_go (slice_index w.closing p) (memory_of w)) w
+settles (HandedOut s) p w = storing (let_go (closed_at w p) (memory_of w)) w
 
 pub record StepTakes {T : Type 0} (p : ℕ) (o : Outcome) (w v : World T) : Type 0 where
   pub keeper : StepDone w.keeper p v.keeper o

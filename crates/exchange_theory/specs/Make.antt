@@ -7,7 +7,7 @@ use Rattle.keeper.specs.Refusals.{limits}
 use Rattle.keeper.specs.Meaning.{Meaning, stage_of}
 use Rattle.cells_theory.specs.declared.cell.Cell.{Cell}
 use Rattle.cells_theory.specs.Make.{Fresh as FreshCells, fresh_heads, fresh_leaves}
-use Rattle.exchange_theory.specs.World.{World}
+use Rattle.exchange_theory.specs.World.{World, emptied}
 use Rattle.exchange_theory.specs.Order.{refuse}
 
 -- the first n programs are idle
@@ -38,10 +38,7 @@ pub record Fresh {T : Type 0} (leaf : T) (ls : List T) (w : World T) : Type 0 wh
   pub heads : w.heads ≡ fresh_heads (length w.cells)
   pub cells : FreshCells w.cells
   pub leaves : w.leaves ≡ fresh_leaves (length w.cells) leaf ls
-  pub reading : w.reading ≡ replicate 64 None
-  pub building : w.building ≡ replicate 64 None
-  pub offered : w.offered ≡ replicate 8 0
-  pub closing : w.closing ≡ replicate 8 0
+  pub rows : w.rows ≡ replicate 8 (emptied 0 0)
 
 -- making over a keeper of meaning m, cells cs and leaves ls, which leaves ds and ms in memory: what is made has a new world, in which
 -- the keeper is as it was; a refusal (4) alters nothing

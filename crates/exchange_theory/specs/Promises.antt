@@ -17,6 +17,7 @@ use Rattle.exchange_theory.specs.declared.calls.Call.{Call}
 use Rattle.exchange_theory.specs.declared.calls.Call.TheVariants.{Step, Look}
 use Rattle.exchange_theory.specs.declared.calls.Answer.{Answer}
 use Rattle.exchange_theory.specs.declared.calls.Answer.TheVariants as answer
+use Rattle.exchange_theory.specs.declared.row.Row.{Row}
 use Rattle.exchange_theory.specs.World.{World, memory_of}
 use Rattle.exchange_theory.specs.Story.{Story, Task, resting, opening, publishing, closing}
 use Rattle.exchange_theory.specs.History.{Event, event, Reached, story}
@@ -75,9 +76,14 @@ cells_in [] = []
 cells_in (None ∷ os) = cells_in os
 cells_in (Some c ∷ os) = c ∷ cells_in os
 
+-- the cells that the building places of rows name
+abbrev pub built_in : List Row → List ℕ
+built_in [] = []
+built_in (r ∷ rs) = cells_in r.building ++ built_in rs
+
 -- the names by which the outside names cells: the kept roots and the building places
 abbrev pub names : {T : Type 0} → World T → List ℕ
-names w = map (λ (v : Version). v.root) w.keeper.kept ++ cells_in w.building
+names w = map (λ (v : Version). v.root) w.keeper.kept ++ built_in w.rows
 
 -- after the run h from the making's leaf, in the world w that it led to
 pub record Promises {T : Type 0} (leaf : T) (h : List (Event T)) (w : World T) : Type 0 where

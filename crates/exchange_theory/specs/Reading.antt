@@ -1,5 +1,5 @@
 -- The calls that read: root, down and look.
-use Rattle.std.specs.Prelude.{◌≡◌, ℕ, ◌+◌, ◌*◌, cond, ◌&&◌, List, length, Some, None, Ok, Err, Option, Result, nat_lt, slice_set}
+use Rattle.std.specs.Prelude.{◌≡◌, ℕ, cond, ◌&&◌, List, length, Some, None, Ok, Err, Option, Result, nat_lt}
 use Rattle.keeper.specs.declared.fault.Refusal.TheVariants.{PlaceEmpty, NoCell}
 use Rattle.keeper.specs.declared.fault.Fault.{Fault}
 use Rattle.keeper.specs.Effects.{root_answer}
@@ -26,7 +26,7 @@ root_refusal w p a = admits w p (nat_lt a 8) column.Root (root_fault w.size (roo
 pub record TakesRoot {T : Type 0} (p a : ℕ) (w v : World T) : Type 0 where
   pub root : ℕ
   pub had : root_answer w.keeper p ≡ Ok root
-  pub after : v ≡ reading (slice_set w.reading (8 * p + a) (Some root)) w
+  pub after : v ≡ reading p a (Some root) w
 
 abbrev pub Roots : {T : Type 0} → ℕ → ℕ → Result (Unit {0}) Fault → World T → World T → Type 0
 Roots p a r w v = Turns (root_refusal w p a) w v (λ _. TakesRoot p a w v) r
@@ -53,7 +53,7 @@ pub record Descends {T : Type 0} (p a k b : ℕ) (w v : World T) : Type 0 where
   pub to : ℕ
   pub start : reading_at w p a ≡ Some from
   pub along : field_answer w.cells from k ≡ Ok (field.Cell to)
-  pub after : v ≡ reading (slice_set w.reading (8 * p + b) (Some to)) w
+  pub after : v ≡ reading p b (Some to) w
 
 abbrev pub Downs : {T : Type 0} → ℕ → ℕ → ℕ → ℕ → Result (Unit {0}) Fault → World T → World T → Type 0
 Downs p a k b r w v = Turns (down_refusal w p a k b) w v (λ _. Descends p a k b w v) r

@@ -8,10 +8,13 @@ mod calls;
 mod column;
 // What an exchange holds beside its keeper.
 mod desk;
-// The reading and building places of all programs.
+// The rows of all programs.
 mod places;
+// What is held for one program.
+mod row;
 
 pub use calls::{Answer, Call, Source};
 pub use column::Column;
 pub use desk::Desk;
 pub use places::Places;
+pub use row::Row;

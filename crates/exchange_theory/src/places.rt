@@ -1,13 +1,13 @@
 ghost use Rattle.std.specs.Prelude.{◌≡◌, true};
-ghost use Rattle.exchange_theory.specs.Inside.{inside};
+ghost use Rattle.exchange_theory.specs.Inside.{all_within};
 
-// The places of eight programs, eight reading and eight building places each: place a of program p is number 8 * p + a. Each is empty
-// or names one of the cells.
+use crate::row::Row;
+
+// N, and a row for each of eight programs. Each place of a row is empty or names one of the N cells, and each offered place is one of
+// eight.
 #[derive(Clone, Copy)]
 pub struct Places {
     pub cells: u32,
-    pub reading: [Option<u32>; 64],
-    pub building: [Option<u32>; 64],
-    ghost reads: { inside cells reading ≡ true },
-    ghost builds: { inside cells building ≡ true },
+    pub rows: [Row; 8],
+    ghost inside: { all_within cells rows ≡ true },
 }
