@@ -4,7 +4,6 @@ ghost use Rattle.cells_theory.specs.Build.{build_answer, build_memory, build_lea
 ghost use Rattle.exchange_theory.specs.Building.{all_ranged, Builds};
 ghost use Rattle.exchange.specs.Worlds.{world_of};
 
-use crate::desks::{row_of, with_building, with_row};
 use crate::exchange::Exchange;
 use crate::faults::refused;
 use crate::letting::let_go_named;
@@ -52,14 +51,14 @@ impl<K: Keeper> Exchange<K> {
     {
         let ranged = in_range(place, &sources);
         self.admit(program, ranged, Column::Build, cells, leaves)?;
-        let row = row_of(&self.desk.places, program);
+        let row = self.desk.places.row(program);
         let Some(fields) = fields_from(&row, &sources) else {
             return Err(refused(Refusal::PlaceEmpty));
         };
         let cell = fill(cells, leaves, &mut self.desk.heads, fields, leaf)?;
         let_go_named(cells, &mut self.desk.heads, row.building[place as usize]);
-        let named = with_building(row, place, Some(cell));
-        self.desk.places = with_row(self.desk.places, program, named);
+        let built = row.with_building(place, Some(cell));
+        self.desk.places = self.desk.places.with_row(program, built);
         Ok(())
     }
 }

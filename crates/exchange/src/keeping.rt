@@ -1,7 +1,6 @@
 ghost use Rattle.exchange_theory.specs.Keeping.{Opens, Publishes, Closes, Steps};
 ghost use Rattle.exchange.specs.Worlds.{world_of};
 
-use crate::desks::{row_of, with_building, with_row};
 use crate::exchange::Exchange;
 use crate::faults::refused;
 use crate::letting::let_go_all;
@@ -31,7 +30,7 @@ impl<K: Keeper> Exchange<K> {
         ensures { Publishes program place result (world_of K.Enquiry.meaning self.old cells.now leaves.now) (world_of K.Enquiry.meaning self.new cells.now leaves.now) }
     {
         self.admit(program, place < 8, Column::Publish, cells, leaves)?;
-        let row = row_of(&self.desk.places, program);
+        let row = self.desk.places.row(program);
         let Some(cell) = row.building[place as usize] else {
             return Err(refused(Refusal::PlaceEmpty));
         };
@@ -40,7 +39,7 @@ impl<K: Keeper> Exchange<K> {
             offered: place,
             ..row
         };
-        self.desk.places = with_row(self.desk.places, program, offering);
+        self.desk.places = self.desk.places.with_row(program, offering);
         Ok(())
     }
 
@@ -58,13 +57,13 @@ impl<K: Keeper> Exchange<K> {
         let outcome = self.keeper.step(program)?;
         match outcome {
             Outcome::Accepted(_) => {
-                let row = row_of(&self.desk.places, program);
-                let left = with_building(row, row.offered, None);
-                self.desk.places = with_row(self.desk.places, program, left);
+                let row = self.desk.places.row(program);
+                let left = row.with_building(row.offered, None);
+                self.desk.places = self.desk.places.with_row(program, left);
                 Ok(outcome)
             }
             Outcome::HandedOut(_) => {
-                let root = row_of(&self.desk.places, program).closing;
+                let root = self.desk.places.row(program).closing;
                 let_go(cells, &mut self.desk.heads, root);
                 Ok(outcome)
             }
@@ -84,15 +83,9 @@ impl<K: Keeper> Exchange<K> {
         self.admit(program, true, Column::Close, cells, leaves)?;
         let root = self.keeper.root(program)?;
         self.keeper.close(program)?;
-        let row = row_of(&self.desk.places, program);
+        let row = self.desk.places.row(program);
         let_go_all(cells, &mut self.desk.heads, &row.building);
-        let left = Row {
-            reading: [None; 8],
-            building: [None; 8],
-            closing: root,
-            ..row
-        };
-        self.desk.places = with_row(self.desk.places, program, left);
+        self.desk.places = self.desk.places.with_row(program, row.emptied(root));
         Ok(())
     }
 }

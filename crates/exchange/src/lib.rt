@@ -6,8 +6,6 @@
 mod admitting;
 // Building a cell.
 mod building;
-// What the exchange holds, read and changed.
-mod desks;
 // A call by its value.
 mod dispatching;
 // The exchange itself.

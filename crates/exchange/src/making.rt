@@ -72,15 +72,9 @@ fn new_desk(programs: u32, size: u32, heads: Heads) -> Desk
     ensures chains { result.heads ≡ heads }
     ensures rows { result.places.rows ≡ replicate 8 (emptied 0 0) }
 {
-    let row = Row {
-        reading: [None; 8],
-        building: [None; 8],
-        offered: 0,
-        closing: 0,
-    };
     let places = Places {
         cells: size,
-        rows: [row; 8],
+        rows: [Row::NEW; 8],
     };
     Desk {
         programs,

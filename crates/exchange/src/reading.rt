@@ -2,7 +2,6 @@ ghost use Rattle.std.specs.Prelude.{◌≡◌, ◌&&◌, nat_lt};
 ghost use Rattle.exchange_theory.specs.Reading.{Roots, Downs, Looks};
 ghost use Rattle.exchange.specs.Worlds.{world_of};
 
-use crate::desks::{row_of, with_reading, with_row};
 use crate::exchange::Exchange;
 use crate::faults::{damaged, refused};
 use cells_theory::{Cell, Field, Shown};
@@ -32,8 +31,8 @@ impl<K: Keeper> Exchange<K> {
         if root >= self.desk.places.cells {
             return Err(damaged());
         }
-        let row = with_reading(row_of(&self.desk.places, program), place, root);
-        self.desk.places = with_row(self.desk.places, program, row);
+        let row = self.desk.places.row(program).with_reading(place, root);
+        self.desk.places = self.desk.places.with_row(program, row);
         Ok(())
     }
 
@@ -51,15 +50,15 @@ impl<K: Keeper> Exchange<K> {
     {
         let ranged = in_range(place, field, to);
         self.admit(program, ranged, Column::Down, cells, leaves)?;
-        let row = row_of(&self.desk.places, program);
+        let row = self.desk.places.row(program);
         let Some(from) = row.reading[place as usize] else {
             return Err(refused(Refusal::PlaceEmpty));
         };
         let Field::Cell(cell) = cells::field(cells, from, field)? else {
             return Err(refused(Refusal::NoCell));
         };
-        let lower = with_reading(row, to, cell);
-        self.desk.places = with_row(self.desk.places, program, lower);
+        let lower = row.with_reading(to, cell);
+        self.desk.places = self.desk.places.with_row(program, lower);
         Ok(())
     }
 
@@ -74,7 +73,7 @@ impl<K: Keeper> Exchange<K> {
         ensures { Looks program place result (world_of K.Enquiry.meaning self.now cells.now leaves.now) (world_of K.Enquiry.meaning self.now cells.now leaves.now) }
     {
         self.admit(program, place < 8, Column::Look, cells, leaves)?;
-        let row = row_of(&self.desk.places, program);
+        let row = self.desk.places.row(program);
         let Some(cell) = row.reading[place as usize] else {
             return Err(refused(Refusal::PlaceEmpty));
         };

@@ -16,6 +16,10 @@ row rs bs o c = record { reading = rs; building = bs; offered = o; closing = c }
 abbrev pub emptied : ℕ → ℕ → Row
 emptied b c = row (replicate 8 None) (replicate 8 None) b c
 
+-- the row of program p; a program that is not there has nothing
+abbrev pub row_in : List Row → ℕ → Row
+row_in rs p = slice_index_or rs p (row [] [] 0 0)
+
 -- a row with o in reading place a, and with o in building place b
 abbrev pub row_reading : ℕ → Option ℕ → Row → Row
 row_reading a o r = row (slice_set r.reading a o) r.building r.offered r.closing
@@ -45,9 +49,8 @@ world k d cs ls = record {
   leaves = ls;
 }
 
--- the row of program p; a program that is not there has nothing
 abbrev pub row_at : {T : Type 0} → World T → ℕ → Row
-row_at w p = slice_index_or w.rows p (row [] [] 0 0)
+row_at w p = row_in w.rows p
 
 -- what reading place a, and building place b, of program p names
 abbrev pub reading_at : {T : Type 0} → World T → ℕ → ℕ → Option ℕ

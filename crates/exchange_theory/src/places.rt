@@ -11,3 +11,34 @@ pub struct Places {
     pub rows: [Row; 8],
     ghost inside: { all_within cells rows ≡ true },
 }
+
+impl Places {
+    ghost use Rattle.std.specs.Prelude.{◌<◌, slice_set};
+    ghost use Rattle.exchange_theory.specs.Inside.{within};
+    ghost use Rattle.exchange_theory.specs.World.{row_in};
+
+    // The row of a program.
+    pub fn row(&self, program: u32) -> Row
+        requires { program < 8 }
+        ensures value { result ≡ row_in self.now.rows program }
+        ensures inside { within self.now.cells result ≡ true }
+        ensures low { result.offered < 8 }
+    {
+        self.rows[program as usize]
+    }
+
+    // The places with another row for a program.
+    pub fn with_row(self, program: u32, row: Row) -> Places
+        requires seat { program < 8 }
+        requires inside { within self.cells row ≡ true }
+        ensures size { result.cells ≡ self.cells }
+        ensures rows { result.rows ≡ slice_set self.rows program row }
+    {
+        let mut rows = self.rows;
+        rows[program as usize] = row;
+        Places {
+            cells: self.cells,
+            rows,
+        }
+    }
+}

@@ -1,3 +1,7 @@
+ghost use Rattle.std.specs.Prelude.{◌≡◌, ℕ, ◌<◌, true, Some};
+ghost use Rattle.exchange_theory.specs.Inside.{below, within};
+ghost use Rattle.exchange_theory.specs.World.{emptied, row_reading, row_building};
+
 // What the exchange holds for one program.
 #[derive(Clone, Copy)]
 pub struct Row {
@@ -8,4 +12,48 @@ pub struct Row {
     pub offered: u32,
     // The root of the version that it closed last.
     pub closing: u32,
+}
+
+impl Row {
+    // The row of a program that has done nothing yet.
+    pub const NEW: Row = Row {
+        reading: [None; 8],
+        building: [None; 8],
+        offered: 0,
+        closing: 0,
+    };
+
+    // The row with a cell in one of its reading places. Its places stay below a limit that the cell is below.
+    pub fn with_reading(self, place: u32, cell: u32) -> Row
+        requires { place < 8 }
+        ensures value { result ≡ row_reading place (Some cell) self }
+        ensures inside { (n : ℕ) → within n self ≡ true → cell < n → within n result ≡ true }
+    {
+        let mut row = self;
+        row.reading[place as usize] = Some(cell);
+        row
+    }
+
+    // The row with what one of its building places is to name: nothing, or a cell.
+    pub fn with_building(self, place: u32, named: Option<u32>) -> Row
+        requires { place < 8 }
+        ensures value { result ≡ row_building place named self }
+        ensures inside { (n : ℕ) → within n self ≡ true → below n named ≡ true → within n result ≡ true }
+    {
+        let mut row = self;
+        row.building[place as usize] = named;
+        row
+    }
+
+    // The row with no places, whose program closes a version with that root.
+    pub fn emptied(self, root: u32) -> Row
+        ensures value { result ≡ emptied self.offered root }
+        ensures inside { (n : ℕ) → within n self ≡ true → within n result ≡ true }
+    {
+        Row {
+            offered: self.offered,
+            closing: root,
+            ..Row::NEW
+        }
+    }
 }
