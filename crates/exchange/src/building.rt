@@ -14,8 +14,7 @@ use keeper::{Enquiry, Fault, Keeper, Refusal};
 
 // Whether a place, and the places that four sources name, are there.
 fn in_range(place: u32, sources: &[Source; 4]) -> bool
-    ensures value { result ≡ (nat_lt place 8 && all_ranged sources.now) }
-    ensures ranged { result ≡ true → all_ranged sources.now ≡ true }
+    ensures { result ≡ (nat_lt place 8 && all_ranged sources.now) }
 {
     place < 8 && all_in_range(sources)
 }

@@ -15,8 +15,7 @@ impl<K: Keeper> Exchange<K> {
         ensures { Opens program result (world_of K.Enquiry.meaning self.old cells.now leaves.now) (world_of K.Enquiry.meaning self.new cells.now leaves.now) }
     {
         self.admit(program, true, Column::Open, cells, leaves)?;
-        self.keeper.open(program)?;
-        Ok(())
+        self.keeper.open(program)
     }
 
     // The program begins to offer the cell in one of its building places, which is remembered.
@@ -60,15 +59,14 @@ impl<K: Keeper> Exchange<K> {
                 let row = self.desk.places.row(program);
                 let left = row.with_building(row.offered, None);
                 self.desk.places = self.desk.places.with_row(program, left);
-                Ok(outcome)
             }
             Outcome::HandedOut(_) => {
                 let root = self.desk.places.row(program).closing;
                 let_go(cells, &mut self.desk.heads, root);
-                Ok(outcome)
             }
-            Outcome::GoesOn | Outcome::Opened(_) | Outcome::Stale | Outcome::Nothing => Ok(outcome),
+            Outcome::GoesOn | Outcome::Opened(_) | Outcome::Stale | Outcome::Nothing => {}
         }
+        Ok(outcome)
     }
 
     // The program gives up its places and begins to close its version, whose root is remembered until it is handed out.

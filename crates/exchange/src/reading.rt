@@ -31,7 +31,7 @@ impl<K: Keeper> Exchange<K> {
         if root >= self.desk.places.cells {
             return Err(damaged());
         }
-        let row = self.desk.places.row(program).with_reading(place, root);
+        let row = self.desk.places.row(program).with_reading(place, Some(root));
         self.desk.places = self.desk.places.with_row(program, row);
         Ok(())
     }
@@ -57,7 +57,7 @@ impl<K: Keeper> Exchange<K> {
         let Field::Cell(cell) = cells::field(cells, from, field)? else {
             return Err(refused(Refusal::NoCell));
         };
-        let lower = row.with_reading(to, cell);
+        let lower = row.with_reading(to, Some(cell));
         self.desk.places = self.desk.places.with_row(program, lower);
         Ok(())
     }
@@ -77,7 +77,6 @@ impl<K: Keeper> Exchange<K> {
         let Some(cell) = row.reading[place as usize] else {
             return Err(refused(Refusal::PlaceEmpty));
         };
-        let shown = cells::look(cells, leaves, cell)?;
-        Ok(shown)
+        cells::look(cells, leaves, cell)
     }
 }

@@ -47,9 +47,11 @@ pub(crate) fn fields_from(row: &Row, sources: &[Source; 4]) -> Option<[Field; 4]
     requires { all_ranged sources.now ≡ true }
     ensures { MatchOption result (all_given row.now sources.now ≡ false) (λ fs. (all_given row.now sources.now ≡ true) × (fs ≡ fields_from row.now sources.now)) }
 {
-    let f0 = field_from(row, sources[0])?;
-    let f1 = field_from(row, sources[1])?;
-    let f2 = field_from(row, sources[2])?;
-    let f3 = field_from(row, sources[3])?;
-    Some([f0, f1, f2, f3])
+    let [first, second, third, fourth] = *sources;
+    Some([
+        field_from(row, first)?,
+        field_from(row, second)?,
+        field_from(row, third)?,
+        field_from(row, fourth)?,
+    ])
 }

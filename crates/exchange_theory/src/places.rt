@@ -18,6 +18,7 @@ impl Places {
     ghost use Rattle.exchange_theory.specs.World.{row_in};
 
     // The row of a program.
+    #[tactic(auto, using(crate::proofs::Insides::row_within, crate::proofs::Insides::row_low))]
     pub fn row(&self, program: u32) -> Row
         requires { program < 8 }
         ensures value { result ≡ row_in self.now.rows program }
@@ -28,6 +29,7 @@ impl Places {
     }
 
     // The places with another row for a program.
+    #[tactic(auto, using(crate::proofs::Insides::rows_within))]
     pub fn with_row(self, program: u32, row: Row) -> Places
         requires seat { program < 8 }
         requires inside { within self.cells row ≡ true }

@@ -1,4 +1,4 @@
-ghost use Rattle.std.specs.Prelude.{◌≡◌, ℕ, ◌<◌, true, Some};
+ghost use Rattle.std.specs.Prelude.{◌≡◌, ℕ, ◌<◌, true};
 ghost use Rattle.exchange_theory.specs.Inside.{below, within};
 ghost use Rattle.exchange_theory.specs.World.{emptied, row_reading, row_building};
 
@@ -23,18 +23,21 @@ impl Row {
         closing: 0,
     };
 
-    // The row with a cell in one of its reading places. Its places stay below a limit that the cell is below.
-    pub fn with_reading(self, place: u32, cell: u32) -> Row
+    // The row with what one of its reading places is to name: nothing, or a cell. Where its places name cells below a limit, and the
+    // new one does, they still do.
+    #[tactic(auto, using(crate::proofs::Insides::within_reading))]
+    pub fn with_reading(self, place: u32, named: Option<u32>) -> Row
         requires { place < 8 }
-        ensures value { result ≡ row_reading place (Some cell) self }
-        ensures inside { (n : ℕ) → within n self ≡ true → cell < n → within n result ≡ true }
+        ensures value { result ≡ row_reading place named self }
+        ensures inside { (n : ℕ) → within n self ≡ true → below n named ≡ true → within n result ≡ true }
     {
         let mut row = self;
-        row.reading[place as usize] = Some(cell);
+        row.reading[place as usize] = named;
         row
     }
 
-    // The row with what one of its building places is to name: nothing, or a cell.
+    // The same for one of its building places.
+    #[tactic(auto, using(crate::proofs::Insides::within_building))]
     pub fn with_building(self, place: u32, named: Option<u32>) -> Row
         requires { place < 8 }
         ensures value { result ≡ row_building place named self }
@@ -46,6 +49,7 @@ impl Row {
     }
 
     // The row with no places, whose program closes a version with that root.
+    #[tactic(auto, using(crate::proofs::Insides::within_emptied))]
     pub fn emptied(self, root: u32) -> Row
         ensures value { result ≡ emptied self.offered root }
         ensures inside { (n : ℕ) → within n self ≡ true → within n result ≡ true }
