@@ -9,8 +9,8 @@ pub built_below : (m : Memory) (leaves : ℕ) (fs : List Field) (c : ℕ) → Ok
 built_below m leaves fs c e = go (eqb m.heads.free none) (fillable m.cells leaves m.heads.free fs) refl e
   where
     go : (a b : Bool) → fillable m.cells leaves m.heads.free fs ≡ b → Ok c ≡ cond a (Err no_free_cell) (cond b (Ok m.heads.free) (Err damaged)) → c < length m.cells
-    go true b q e = let z : ◌≡◌ {A = ℕ} 0 1 = cc in absurd (omega arith)
-    go false false q e = let z : ◌≡◌ {A = ℕ} 0 1 = cc in absurd (omega arith)
+    go true b q e = absurd cc
+    go false false q e = absurd cc
     go false true q e =
         let x = and_parts (ltb m.heads.free (length m.cells)) (ltb m.heads.free leaves && all_raisable m.cells fs) q in
         let same : c ≡ m.heads.free = cc in

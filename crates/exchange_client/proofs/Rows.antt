@@ -11,12 +11,12 @@ use Rattle.exchange_client.specs.Rows.{turned, Performed}
 
 -- a refusal counts 1, another answer 0
 pub turned_one : {A : Type 0} (r : Result A Fault) → is_err r ≡ true → turned r ≡ 1
-turned_one (Ok a) e = let z : ◌≡◌ {A = ℕ} 0 1 = cc in absurd (omega arith)
+turned_one (Ok a) e = absurd cc
 turned_one (Err f) e = refl
 
 pub turned_none : {A : Type 0} (r : Result A Fault) → is_err r ≡ false → turned r ≡ 0
 turned_none (Ok a) e = refl
-turned_none (Err f) e = let z : ◌≡◌ {A = ℕ} 0 1 = cc in absurd (omega arith)
+turned_none (Err f) e = absurd cc
 
 pub turned_low : {A : Type 0} (r : Result A Fault) → turned r ≤ 1
 turned_low (Ok a) = omega arith

@@ -1,5 +1,5 @@
 -- What is known of a call that was accepted, and the cases of a call's answer.
-use Rattle.std.proofs.Common.{◌≡◌, ℕ, ◌<◌, Bool, true, false, ltb, Some, None, Ok, Err, Option, Result, refl, subst, arith}
+use Rattle.std.proofs.Common.{◌≡◌, ℕ, ◌<◌, Bool, true, false, ltb, Some, None, Ok, Err, Option, Result, refl, subst}
 use Rattle.std.proofs.lemmas.Bool.{ltb-true}
 use Rattle.keeper.specs.declared.outcome.Outcome.{Outcome}
 use Rattle.keeper.specs.declared.fault.Refusal.{Refusal}
@@ -22,15 +22,15 @@ use Rattle.exchange_theory.specs.Did.{AsBegun, AsStepped, AsDone, AsShown, AsSwe
 -- nothing is refused: the test holds, and nothing after it refuses
 pub refuse_none : (b : Bool) (r : Refusal) (rest : Option Fault) → refuse b r rest ≡ None → (b ≡ true) × (rest ≡ None)
 refuse_none true r rest e = (refl, e)
-refuse_none false r rest e = let z : ◌≡◌ {A = ℕ} 0 1 = cc in absurd (omega arith)
+refuse_none false r rest e = absurd cc
 
 pub unless_none : (b : Bool) (r : Refusal) (rest : Option Fault) → unless b r rest ≡ None → (b ≡ true) × (rest ≡ None)
 unless_none true r rest e = (refl, e)
-unless_none false r rest e = let z : ◌≡◌ {A = ℕ} 0 1 = cc in absurd (omega arith)
+unless_none false r rest e = absurd cc
 
 pub passing_none : (o rest : Option Fault) → passing o rest ≡ None → (o ≡ None) × (rest ≡ None)
 passing_none None rest e = (refl, e)
-passing_none (Some f) rest e = let z : ◌≡◌ {A = ℕ} 0 1 = cc in absurd (omega arith)
+passing_none (Some f) rest e = absurd cc
 
 -- what holds where a call on a program is not refused
 pub record Admitted {T : Type 0} (w : World T) (p : ℕ) (ranged : Bool) (c : Column) (rest : Option Fault) : Type 0 where
@@ -61,52 +61,33 @@ admitted w p ranged c rest e =
 pub by_begun : {T : Type 0} (P : Result (Unit {0}) Fault → Type 0) (Q : Result (Answer T) Fault → Type 0) (r : Result (Answer T) Fault) → AsBegun P r
     → ((a : Answer T) → P (Ok tt) → Q (Ok a)) → ((f : Fault) → P (Err f) → Q (Err f)) → Q r
 by_begun P Q (Ok answer.Begun) d ok err = ok answer.Begun d
-by_begun P Q (Ok (answer.Stepped o)) d ok err = absurd d
-by_begun P Q (Ok answer.Done) d ok err = absurd d
-by_begun P Q (Ok (answer.Shown s)) d ok err = absurd d
-by_begun P Q (Ok answer.Swept) d ok err = absurd d
-by_begun P Q (Ok answer.Unswept) d ok err = absurd d
 by_begun P Q (Err f) d ok err = err f d
+by_begun P Q (Ok a) d ok err = absurd d
 
 pub by_stepped : {T : Type 0} (P : Result Outcome Fault → Type 0) (Q : Result (Answer T) Fault → Type 0) (r : Result (Answer T) Fault) → AsStepped P r
     → ((o : Outcome) → P (Ok o) → Q (Ok (answer.Stepped o))) → ((f : Fault) → P (Err f) → Q (Err f)) → Q r
-by_stepped P Q (Ok answer.Begun) d ok err = absurd d
 by_stepped P Q (Ok (answer.Stepped o)) d ok err = ok o d
-by_stepped P Q (Ok answer.Done) d ok err = absurd d
-by_stepped P Q (Ok (answer.Shown s)) d ok err = absurd d
-by_stepped P Q (Ok answer.Swept) d ok err = absurd d
-by_stepped P Q (Ok answer.Unswept) d ok err = absurd d
 by_stepped P Q (Err f) d ok err = err f d
+by_stepped P Q (Ok a) d ok err = absurd d
 
 pub by_done : {T : Type 0} (P : Result (Unit {0}) Fault → Type 0) (Q : Result (Answer T) Fault → Type 0) (r : Result (Answer T) Fault) → AsDone P r
     → ((a : Answer T) → P (Ok tt) → Q (Ok a)) → ((f : Fault) → P (Err f) → Q (Err f)) → Q r
-by_done P Q (Ok answer.Begun) d ok err = absurd d
-by_done P Q (Ok (answer.Stepped o)) d ok err = absurd d
 by_done P Q (Ok answer.Done) d ok err = ok answer.Done d
-by_done P Q (Ok (answer.Shown s)) d ok err = absurd d
-by_done P Q (Ok answer.Swept) d ok err = absurd d
-by_done P Q (Ok answer.Unswept) d ok err = absurd d
 by_done P Q (Err f) d ok err = err f d
+by_done P Q (Ok a) d ok err = absurd d
 
 pub by_shown : {T : Type 0} (P : Result (Shown T) Fault → Type 0) (Q : Result (Answer T) Fault → Type 0) (r : Result (Answer T) Fault) → AsShown P r
     → ((a : Answer T) (s : Shown T) → P (Ok s) → Q (Ok a)) → ((f : Fault) → P (Err f) → Q (Err f)) → Q r
-by_shown P Q (Ok answer.Begun) d ok err = absurd d
-by_shown P Q (Ok (answer.Stepped o)) d ok err = absurd d
-by_shown P Q (Ok answer.Done) d ok err = absurd d
 by_shown P Q (Ok (answer.Shown s)) d ok err = ok (answer.Shown s) s d
-by_shown P Q (Ok answer.Swept) d ok err = absurd d
-by_shown P Q (Ok answer.Unswept) d ok err = absurd d
 by_shown P Q (Err f) d ok err = err f d
+by_shown P Q (Ok a) d ok err = absurd d
 
 pub by_swept : {T : Type 0} (P : Result Bool Fault → Type 0) (Q : Result (Answer T) Fault → Type 0) (r : Result (Answer T) Fault) → AsSwept P r
     → ((a : Answer T) (b : Bool) → P (Ok b) → Q (Ok a)) → ((f : Fault) → P (Err f) → Q (Err f)) → Q r
-by_swept P Q (Ok answer.Begun) d ok err = absurd d
-by_swept P Q (Ok (answer.Stepped o)) d ok err = absurd d
-by_swept P Q (Ok answer.Done) d ok err = absurd d
-by_swept P Q (Ok (answer.Shown s)) d ok err = absurd d
 by_swept P Q (Ok answer.Swept) d ok err = ok answer.Swept true d
 by_swept P Q (Ok answer.Unswept) d ok err = ok answer.Unswept false d
 by_swept P Q (Err f) d ok err = err f d
+by_swept P Q (Ok a) d ok err = absurd d
 
 -- what a step that came to o did
 pub step_from : {T : Type 0} (c : Call T) (r : Result (Answer T) Fault) (w v : World T) (p : ℕ) (o : Outcome) → Did c r w v → c ≡ Step p → r ≡ Ok (answer.Stepped o) → Steps p (Ok o) w v

@@ -133,7 +133,7 @@ module _ {T : Type 0} (version : ℕ → Tree T) (rd bd : ℕ → ℕ → Tree T
               (omega (arith, a, o.0), ap (λ (y : Row). y.offered) (row_other u p r q ne) ∙ o.1 ∙ sym a, ap (building_at (with_row p r u) q) a ∙ builds (offers q) q ∙ o.2))
               (cases_eq q p);
           close = λ q s g. ⊎_elim
-              (λ z. let g2 : Offering c (serial_of (stage_of m p)) ≡ Closing s = sym own ∙ ap (stage_of n) (sym z) ∙ g in let z2 : ◌≡◌ {A = ℕ} 0 1 = cc in absurd (omega arith))
+              (λ z. let g2 : Offering c (serial_of (stage_of m p)) ≡ Closing s = sym own ∙ ap (stage_of n) (sym z) ∙ g in absurd cc)
               (λ ne. let o = h.noted.close q s (sym (others q ne) ∙ g) in
               (omega (arith, o.0, ap (λ (v : Version). v.serial) cur), λ x. part_kept (λ (y : Row). y.closing) u p r l refl q ∙ o.1 (subst (λ (y : List Version). 0 < times_kept s y) k x) ∙ ap (root_at s) (sym k)))
               (cases_eq q p);

@@ -151,7 +151,7 @@ module _ {T : Type 0} (version' : ℕ → Tree T) (rd bd : ℕ → ℕ → Tree 
     where
       opens : (q s : ℕ) → opened_at (stage_of w.keeper q) ≡ Some s → opened_at (stage_of n q) ≡ Some s
       opens q s e =
-          ⊎_elim (λ z. let g : opened_at (Closing x) ≡ Some s = sym (ap opened_at a.was) ∙ ap (λ j. opened_at (stage_of w.keeper j)) (sym z) ∙ e in let y : ◌≡◌ {A = ℕ} 0 1 = cc in absurd (omega arith))
+          ⊎_elim (λ z. let g : opened_at (Closing x) ≡ Some s = sym (ap opened_at a.was) ∙ ap (λ j. opened_at (stage_of w.keeper j)) (sym z) ∙ e in absurd cc)
           (λ ne. rebinds_opened n (stage_of w.keeper q) (stage_of n q) (f.others q ne) ∙ e) (cases_eq q p)
 
   -- the places of the program are empty, and what it built is let go
@@ -193,14 +193,14 @@ module _ {T : Type 0} (version' : ℕ → Tree T) (rd bd : ℕ → ℕ → Tree 
               (λ ne. apart o (reading_at v) (reading_at w) rd p q b ne (ap (λ (x : Row). get_or x.reading b None) (other q ne)) (so.read q b lq lc))
               (cases_eq q p);
           reached = λ q b c lq lc e. ⊎_elim
-              (λ z. let g : None ≡ Some c = sym (ap (λ j. reading_at v j b) z ∙ ap (λ (x : Row). get_or x.reading b None) own ∙ all_none 8 b) ∙ e in let y : ◌≡◌ {A = ℕ} 0 1 = cc in absurd (omega arith))
+              (λ z. let g : None ≡ Some c = sym (ap (λ j. reading_at v j b) z ∙ ap (λ (x : Row). get_or x.reading b None) own ∙ all_none 8 b) ∙ e in absurd cc)
               (λ ne. let x = so.reached q b c lq lc (sym (ap (λ (y : Row). get_or y.reading b None) (other q ne)) ∙ e) in
               (x.0, ap opened_at (others q ne) ∙ x.1, subst (λ (vs : List Version). Reaches o.cells (root_at x.0 vs) c) (sym k) x.2))
               (cases_eq q p);
         };
         noted = record {
           offer = λ q x s e. ⊎_elim
-              (λ z. let g : Closing s₀ ≡ Offering x s = sym own_stage ∙ ap (stage_of n) (sym z) ∙ e in let y : ◌≡◌ {A = ℕ} 0 1 = cc in absurd (omega arith))
+              (λ z. let g : Closing s₀ ≡ Offering x s = sym own_stage ∙ ap (stage_of n) (sym z) ∙ e in absurd cc)
               (λ ne. let note = h.noted.offer q x s (sym (others q ne) ∙ e) in
               (note.0, ap (λ (y : Row). y.offered) (other q ne) ∙ note.1, ap (λ (y : Row). get_or y.building (offers q) None) (other q ne) ∙ note.2))
               (cases_eq q p);

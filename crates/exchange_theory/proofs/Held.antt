@@ -4,7 +4,7 @@ use Rattle.std.proofs.lemmas.List.{length-set, get_or_past}
 use Rattle.std.proofs.lemmas.Bool.{cases_eq, cases_lt, lt-ltb}
 use Rattle.keeper.specs.declared.version.Version.{Version}
 use Rattle.keeper.specs.declared.stage.Stage.{Stage}
-use Rattle.keeper.specs.declared.stage.Stage.TheVariants.{Idle, Opening, Open, Offering, Offered, Closing}
+use Rattle.keeper.specs.declared.stage.Stage.TheVariants.{Opening, Offering, Closing}
 use Rattle.keeper.specs.declared.fault.Refusal.TheVariants.{NoProgram}
 use Rattle.keeper.specs.Refusals.{fault}
 use Rattle.keeper.specs.Stages.{has}
@@ -66,19 +66,15 @@ abbrev pub HeldBy : {T : Type 0} → Story T → World T → Type 0
 HeldBy S w = Held S.version S.reading S.building S.offers w
 
 pub opened_has : (st : Stage) (s : ℕ) → opened_at st ≡ Some s → has st ≡ Some s
-opened_has Idle s e = e
-opened_has (Opening a b) s e = let z : ◌≡◌ {A = ℕ} 0 1 = cc in absurd (omega arith)
-opened_has (Open t) s e = e
-opened_has (Offering r t) s e = e
-opened_has (Offered t) s e = e
-opened_has (Closing t) s e = e
+opened_has (Opening a b) s e = absurd cc
+opened_has st s e = e
 
 -- the root that the keeper tells is that of the version which the program has
 pub root_told : (m : Meaning) (p root : ℕ) → p < m.programs → root_answer m p ≡ Ok root → (s : ℕ) × (has (stage_of m p) ≡ Some s) × (root ≡ root_at s m.kept)
 root_told m p root l e = go (has (stage_of m p)) refl (sym (ap (λ b. cond b (root_of m (has (stage_of m p))) (Err (fault NoProgram))) (lt-ltb p m.programs l)) ∙ e)
   where
     go : (o : Option ℕ) → has (stage_of m p) ≡ o → root_of m o ≡ Ok root → (s : ℕ) × (has (stage_of m p) ≡ Some s) × (root ≡ root_at s m.kept)
-    go None h e = let z : ◌≡◌ {A = ℕ} 0 1 = cc in absurd (omega arith)
+    go None h e = absurd cc
     go (Some s) h e = (s, h, cc)
 
 -- a place stays, where the cell in it does
@@ -267,10 +263,10 @@ held_quiet {version = version} {w = w} n h q = record {
 }
 
 pub rebinds_offering : (n : Meaning) (a b : Stage) (r s : ℕ) → Rebinds n a b → b ≡ Offering r s → a ≡ Offering r s
-rebinds_offering n a b r s x e = ⊎_elim (λ g. sym g ∙ e) (λ y. let g : Opening y.0 (Some y.1) ≡ Offering r s = sym y.3 ∙ e in let z : ◌≡◌ {A = ℕ} 0 1 = cc in absurd (omega arith)) x
+rebinds_offering n a b r s x e = ⊎_elim (λ g. sym g ∙ e) (λ y. let g : Opening y.0 (Some y.1) ≡ Offering r s = sym y.3 ∙ e in absurd cc) x
 
 pub rebinds_closing : (n : Meaning) (a b : Stage) (s : ℕ) → Rebinds n a b → b ≡ Closing s → a ≡ Closing s
-rebinds_closing n a b s x e = ⊎_elim (λ g. sym g ∙ e) (λ y. let g : Opening y.0 (Some y.1) ≡ Closing s = sym y.3 ∙ e in let z : ◌≡◌ {A = ℕ} 0 1 = cc in absurd (omega arith)) x
+rebinds_closing n a b s x e = ⊎_elim (λ g. sym g ∙ e) (λ y. let g : Opening y.0 (Some y.1) ≡ Closing s = sym y.3 ∙ e in absurd cc) x
 
 -- program p alone moves, and what it does itself is quiet
 pub quiet_moves : (m n : Meaning) (p : ℕ) → Frame m p n → n.current.serial ≡ m.current.serial → n.kept ≡ m.kept
@@ -289,7 +285,7 @@ quiet_moves m n p f cur kept op off cl = record {
 
 -- a program at rest neither offers nor closes
 pub rest_offers_not : (st a : Stage) (r s : ℕ) → task_at st ≡ resting → a ≡ st → a ≡ Offering r s → ⊥
-rest_offers_not st a r s t e g = let k : task_at (Offering r s) ≡ resting = ap task_at (sym g ∙ e) ∙ t in let z : ◌≡◌ {A = ℕ} 0 1 = cc in omega arith
+rest_offers_not st a r s t e g = let k : task_at (Offering r s) ≡ resting = ap task_at (sym g ∙ e) ∙ t in cc
 
 pub rest_closes_not : (st a : Stage) (s : ℕ) → task_at st ≡ resting → a ≡ st → a ≡ Closing s → ⊥
-rest_closes_not st a s t e g = let k : task_at (Closing s) ≡ resting = ap task_at (sym g ∙ e) ∙ t in let z : ◌≡◌ {A = ℕ} 0 1 = cc in omega arith
+rest_closes_not st a s t e g = let k : task_at (Closing s) ≡ resting = ap task_at (sym g ∙ e) ∙ t in cc

@@ -126,7 +126,7 @@ held_start {T} leaf ls w f laws =
             subst (λ (y : ℕ). Stands w.cells w.leaves (field.Cell y) (node leaf empty empty empty empty)) (sym (ap (λ y. root_at y m.kept) q ∙ root)) k.stands) (cases_lt 0 s);
         built = λ p b lp lb. subst (λ (o : Option ℕ). Stands {T = T} w.cells w.leaves (placed o) empty) (sym (unbuilt p b)) tt;
         read = λ p a lp la. subst (λ (o : Option ℕ). Stands {T = T} w.cells w.leaves (placed o) empty) (sym (unread p a lp)) tt;
-        reached = λ p a d lp la g. let q : None ≡ Some d = sym (unread p a lp) ∙ g in let z : ◌≡◌ {A = ℕ} 0 1 = cc in absurd (omega arith);
+        reached = λ p a d lp la g. let q : None ≡ Some d = sym (unread p a lp) ∙ g in absurd cc;
       };
       noted = record {
         offer = λ p x s g. absurd (rest_offers_not Idle (stage_of m p) x s refl (r.resting p) g);
@@ -136,26 +136,22 @@ held_start {T} leaf ls w f laws =
 
 -- what the table says of a stage, once more
 root_opened : (st : Stage) (s : ℕ) → allows st column.Root ≡ true → has st ≡ Some s → opened_at st ≡ Some s
-root_opened Idle s a e = let z : ◌≡◌ {A = ℕ} 0 1 = cc in absurd (omega arith)
-root_opened (Opening x b) s a e = let z : ◌≡◌ {A = ℕ} 0 1 = cc in absurd (omega arith)
 root_opened (Open t) s a e = e
 root_opened (Offering x t) s a e = e
 root_opened (Offered t) s a e = e
-root_opened (Closing t) s a e = let z : ◌≡◌ {A = ℕ} 0 1 = cc in absurd (omega arith)
+root_opened st s a e = absurd cc
 
 close_serial : (st : Stage) (s : ℕ) → allows st column.Close ≡ true → has st ≡ Some s → serial_of st ≡ s
-close_serial Idle s a e = let z : ◌≡◌ {A = ℕ} 0 1 = cc in absurd (omega arith)
-close_serial (Opening x b) s a e = let z : ◌≡◌ {A = ℕ} 0 1 = cc in absurd (omega arith)
 close_serial (Open t) s a e = cc
 close_serial (Offering x t) s a e = cc
 close_serial (Offered t) s a e = cc
-close_serial (Closing t) s a e = let z : ◌≡◌ {A = ℕ} 0 1 = cc in absurd (omega arith)
+close_serial st s a e = absurd cc
 
 build_offers_not : (st : Stage) (r s : ℕ) → allows st column.Build ≡ true → st ≡ Offering r s → ⊥
-build_offers_not st r s a e = let g : false ≡ true = sym (ap (λ (x : Stage). allows x column.Build) e) ∙ a in let z : ◌≡◌ {A = ℕ} 0 1 = cc in omega arith
+build_offers_not st r s a e = let g : false ≡ true = sym (ap (λ (x : Stage). allows x column.Build) e) ∙ a in cc
 
 pub placed_some : (o : Option ℕ) (c : ℕ) → placed o ≡ field.Cell c → o ≡ Some c
-placed_some None c e = let z : ◌≡◌ {A = ℕ} 0 1 = cc in absurd (omega arith)
+placed_some None c e = absurd cc
 placed_some (Some d) c e = cc
 
 pub four : (x y z u : Bool) → (x && (y && (z && u))) ≡ true → (x ≡ true) × (y ≡ true) × (z ≡ true) × (u ≡ true)
@@ -164,8 +160,8 @@ four x y z u e = let a = and_parts x (y && (z && u)) e in let b = and_parts y (z
 module _ {T : Type 0} (S : Story T) (w : World T) (laws : Laws w.keeper) (i : MeantBy S w.keeper) (h : HeldBy S w) where
   -- the sources of a build
   source_live : (p : ℕ) (s : Source) (c : ℕ) → p < 8 → ranged s ≡ true → field_from (row_at w p) s ≡ field.Cell c → Live (memory_of w) c
-  source_live p source.Empty c lp g e = let z : ◌≡◌ {A = ℕ} 0 1 = cc in absurd (omega arith)
-  source_live p (source.Number n) c lp g e = let z : ◌≡◌ {A = ℕ} 0 1 = cc in absurd (omega arith)
+  source_live p source.Empty c lp g e = absurd cc
+  source_live p (source.Number n) c lp g e = absurd cc
   source_live p (source.Reading a) c lp g e = read_live S.version S.reading S.building S.offers w laws h p a c lp (ltb-true a 8 g) (placed_some (reading_at w p a) c e)
   source_live p (source.Building b) c lp g e = built_live S.version S.reading S.building S.offers w laws h p b c lp (ltb-true b 8 g) (placed_some (building_at w p b) c e)
 
@@ -203,9 +199,9 @@ module _ {T : Type 0} (S : Story T) (w : World T) (laws : Laws w.keeper) (i : Me
       subst (λ (x : World T). HeldBy S x) (sym o.after)
       (held_quiet n h (quiet_moves m n p (begun_frame m p st m.declared.opening n d)
       (ap (λ (x : Meaning). x.current.serial) d.after) (ap (λ (x : Meaning). x.kept) d.after)
-      (λ s e. let k : None ≡ Some s = sym (ap opened_at idle) ∙ e in let z : ◌≡◌ {A = ℕ} 0 1 = cc in absurd (omega arith))
-      (λ r s e. let k : st ≡ Offering r s = sym own ∙ e in let z : ◌≡◌ {A = ℕ} 0 1 = cc in absurd (omega arith))
-      (λ s e. let k : st ≡ Closing s = sym own ∙ e in let z : ◌≡◌ {A = ℕ} 0 1 = cc in absurd (omega arith))))
+      (λ s e. let k : None ≡ Some s = sym (ap opened_at idle) ∙ e in absurd cc)
+      (λ r s e. let k : st ≡ Offering r s = sym own ∙ e in absurd cc)
+      (λ s e. let k : st ≡ Closing s = sym own ∙ e in absurd cc)))
 
   -- a step, by what it came to
   held_step : (v : World T) (p : ℕ) (o : Outcome) → Laws v.keeper → Admitted w p true column.Step (step_fault w.keeper p) → StepTakes p o w v → HeldBy (tell_step p o S) v
@@ -220,7 +216,7 @@ module _ {T : Type 0} (S : Story T) (w : World T) (laws : Laws w.keeper) (i : Me
       let f = t.keeper.0 in let c = t.keeper.1 in
       let m = w.keeper in let n = v.keeper in
       subst (λ (x : World T). HeldBy S x) (sym t.after) (held_quiet n h (quiet_moves m n p f (ap (λ (x : Version). x.serial) c.versions.current) c.versions.kept
-      (λ s e. let k : None ≡ Some s = sym (ap opened_at c.was) ∙ e in let z : ◌≡◌ {A = ℕ} 0 1 = cc in absurd (omega arith))
+      (λ s e. let k : None ≡ Some s = sym (ap opened_at c.was) ∙ e in absurd cc)
       (λ r s e. absurd (rest_offers_not (Open x) (stage_of n p) r s refl c.«is» e))
       (λ s e. absurd (rest_closes_not (Open x) (stage_of n p) s refl c.«is» e))))
   held_step v p (Accepted x) lawn g t =
@@ -240,7 +236,7 @@ module _ {T : Type 0} (S : Story T) (w : World T) (laws : Laws w.keeper) (i : Me
       let f = t.keeper.0 in let c = t.keeper.1 in
       let m = w.keeper in let n = v.keeper in
       subst (λ (x : World T). HeldBy S x) (sym t.after) (held_quiet n h (quiet_moves m n p f (ap (λ (x : Version). x.serial) c.versions.current) c.versions.kept
-      (λ s e. let k : None ≡ Some s = sym (ap opened_at c.was) ∙ e in let z : ◌≡◌ {A = ℕ} 0 1 = cc in absurd (omega arith))
+      (λ s e. let k : None ≡ Some s = sym (ap opened_at c.was) ∙ e in absurd cc)
       (λ r s e. absurd (rest_offers_not Idle (stage_of n p) r s refl c.«is» e))
       (λ s e. absurd (rest_closes_not Idle (stage_of n p) s refl c.«is» e))))
   held_step v p (HandedOut x) lawn g t =

@@ -147,14 +147,14 @@ module _ {T : Type 0} (S : Story T) (m n : Meaning) (p : ℕ) (laws : Laws m) (s
   meant_publish r b d e =
       meant_begun p (Offering r (serial_of (stage_of m p))) m.declared.offering S.opened S.since here d i
       (i.opens p ∙ e) (λ q ne. refl)
-      (λ a c h. let z : ◌≡◌ {A = ℕ} 0 1 = cc in absurd (omega arith)) (λ q ne. refl)
+      (λ a c h. absurd cc) (λ q ne. refl)
       refl
 
   pub meant_close : CloseDone m p n → MeantBy (calls_close p S) n
   meant_close d =
       meant_begun p (Closing (serial_of (stage_of m p))) m.declared.closing (at S.opened p None) S.since here d i
       (at_same S.opened p None) (λ q ne. at_other S.opened p None q ne)
-      (λ a c h. let z : ◌≡◌ {A = ℕ} 0 1 = cc in absurd (omega arith)) (λ q ne. refl)
+      (λ a c h. absurd cc) (λ q ne. refl)
       refl
 
   -- at rest no step is counted
@@ -200,7 +200,7 @@ module _ {T : Type 0} (S : Story T) (m n : Meaning) (p : ℕ) (laws : Laws m) (s
       kept beyond
     where
       not_opening : (st : Stage) (a : ℕ) (o : Option ℕ) → task_at st ≡ resting → st ≡ Opening a o → ⊥
-      not_opening st a o r h = let q : opening ≡ resting = sym (ap task_at h) ∙ r in let z : ◌≡◌ {A = ℕ} 0 1 = cc in omega arith
+      not_opening st a o r h = let q : opening ≡ resting = sym (ap task_at h) ∙ r in cc
 
   pub meant_step : (o : Outcome) → StepDone m p n o → (task_at (stage_of m p) ≡ resting → ⊥) → MeantBy (tell_step p o S) n
   meant_step GoesOn d b = steps_on d b

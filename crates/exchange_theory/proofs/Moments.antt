@@ -96,7 +96,7 @@ pub opened_at_moment : {T : Type 0} {leaf : T} {h : List (Event T)} {w : World T
 opened_at_moment {leaf = leaf} {h = h} r = at_moments leaf h (past r).opened
 
 none_some : (s : ℕ) → None ≡ Some s → ⊥
-none_some s e = let z : ◌≡◌ {A = ℕ} 0 1 = cc in omega arith
+none_some s e = cc
 
 opened_has : (st : Stage) (s : ℕ) → opened_at st ≡ Some s → has st ≡ Some s
 opened_has Idle s e = absurd (none_some s e)

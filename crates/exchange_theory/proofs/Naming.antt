@@ -120,7 +120,7 @@ few_cells : (os : List (Option ℕ)) (n : ℕ) → ((i : ℕ) → n ≤ i → ge
 few_cells [] n h = omega arith
 few_cells (None ∷ os) zero h = few_cells os 0 (λ i l. h (suc i) (omega arith))
 few_cells (None ∷ os) (suc n) h = omega (arith, few_cells os n (λ i l. h (suc i) (omega arith)))
-few_cells (Some c ∷ os) zero h = let e = h 0 (omega arith) in let z : ◌≡◌ {A = ℕ} 0 1 = cc in absurd (omega arith)
+few_cells (Some c ∷ os) zero h = let e = h 0 (omega arith) in absurd cc
 few_cells (Some c ∷ os) (suc n) h = omega (arith, few_cells os n (λ i l. h (suc i) (omega arith)))
 
 -- the first n rows have eight building places each, and those after them name nothing

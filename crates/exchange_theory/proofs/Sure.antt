@@ -47,7 +47,7 @@ abbrev Clean : Option Fault → Type 0
 Clean o = (f : Fault) → o ≡ Some f → f.refusal ≡ Damaged → ⊥
 
 clean_none : Clean None
-clean_none f e g = let z : ◌≡◌ {A = ℕ} 0 1 = cc in omega arith
+clean_none f e g = cc
 
 clean_by : (l : Layer) (r : Refusal) → (r ≡ Damaged → ⊥) → Clean (Some (fault_by l r))
 clean_by l r ne f e g = let k : fault_by l r ≡ f = cc in ne (ap (λ (x : Fault). x.refusal) k ∙ g)
@@ -65,28 +65,28 @@ clean_passing None rest a b = b
 clean_passing (Some f) rest a b = a
 
 no_program : NoProgram ≡ Damaged → ⊥
-no_program e = let z : ◌≡◌ {A = ℕ} 0 1 = cc in omega arith
+no_program e = cc
 
 wrong_memory : WrongMemory ≡ Damaged → ⊥
-wrong_memory e = let z : ◌≡◌ {A = ℕ} 0 1 = cc in omega arith
+wrong_memory e = cc
 
 out_of_range : OutOfRange ≡ Damaged → ⊥
-out_of_range e = let z : ◌≡◌ {A = ℕ} 0 1 = cc in omega arith
+out_of_range e = cc
 
 stage_forbids : StageForbids ≡ Damaged → ⊥
-stage_forbids e = let z : ◌≡◌ {A = ℕ} 0 1 = cc in omega arith
+stage_forbids e = cc
 
 place_empty : PlaceEmpty ≡ Damaged → ⊥
-place_empty e = let z : ◌≡◌ {A = ℕ} 0 1 = cc in omega arith
+place_empty e = cc
 
 no_cell_not_damaged : NoCell ≡ Damaged → ⊥
-no_cell_not_damaged e = let z : ◌≡◌ {A = ℕ} 0 1 = cc in omega arith
+no_cell_not_damaged e = cc
 
 no_free_cell_not_damaged : NoFreeCell ≡ Damaged → ⊥
-no_free_cell_not_damaged e = let z : ◌≡◌ {A = ℕ} 0 1 = cc in omega arith
+no_free_cell_not_damaged e = cc
 
 last_serial : LastSerial ≡ Damaged → ⊥
-last_serial e = let z : ◌≡◌ {A = ℕ} 0 1 = cc in omega arith
+last_serial e = cc
 
 clean_filled : (o : Option ℕ) (rest : Option Fault) → Clean rest → Clean (filled o rest)
 clean_filled None rest k = clean_by layer.Exchange PlaceEmpty place_empty
@@ -199,7 +199,7 @@ module _ {T : Type 0} (S : Story T) (w : World T) (laws : Laws w.keeper) (i : Me
   from_fault x k g e f q d = let gf : g ≡ f = cc in k g e (ap (λ (y : Fault). y.refusal) gf ∙ d)
 
   not_refused : (a : Answer T) (f : Fault) → ◌≡◌ {A = Result (Answer T) Fault} (Ok a) (Err f) → f.refusal ≡ Damaged → ⊥
-  not_refused a f q d = let z : ◌≡◌ {A = ℕ} 0 1 = cc in omega arith
+  not_refused a f q d = cc
 
   pub told_sure : (v : World T) (c : Call T) (r : Result (Answer T) Fault) → Did c r w v → NotDamaged (event c r) S
   told_sure v (CallOpen p) r d = by_begun (λ x. Opens p x w v) (λ x. NotDamaged (event (CallOpen p) x) S) r d (λ a o. not_refused a) (λ g e. from_fault (open_refusal w p) (open_clean p) g e.0)

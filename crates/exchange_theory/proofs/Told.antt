@@ -3,7 +3,7 @@ use Rattle.std.proofs.Common.{◌≡◌, ℕ, zero, suc, ◌<◌, Bool, true, fa
 use Rattle.std.proofs.lemmas.List.{get_or_past}
 use Rattle.std.proofs.lemmas.Bool.{cases_eq, cases_lt, eqb-true, and_parts, ne_eqb}
 use Rattle.keeper.specs.declared.stage.Stage.{Stage}
-use Rattle.keeper.specs.declared.stage.Stage.TheVariants.{Idle, Opening, Open, Offering, Offered, Closing}
+use Rattle.keeper.specs.declared.stage.Stage.TheVariants.{Idle, Opening, Open, Offering, Closing}
 use Rattle.keeper.specs.declared.outcome.Outcome.TheVariants.{Opened, Accepted, Stale, HandedOut}
 use Rattle.keeper.specs.declared.fault.Fault.{Fault}
 use Rattle.keeper.specs.Totals.{total}
@@ -40,36 +40,22 @@ total_find f (x ∷ xs) d h =
 -- what the table says of a stage
 pub opens_idle : (st : Stage) → allows st column.Open ≡ true → st ≡ Idle
 opens_idle Idle e = refl
-opens_idle (Opening a b) e = let z : ◌≡◌ {A = ℕ} 0 1 = cc in absurd (omega arith)
-opens_idle (Open s) e = let z : ◌≡◌ {A = ℕ} 0 1 = cc in absurd (omega arith)
-opens_idle (Offering r s) e = let z : ◌≡◌ {A = ℕ} 0 1 = cc in absurd (omega arith)
-opens_idle (Offered s) e = let z : ◌≡◌ {A = ℕ} 0 1 = cc in absurd (omega arith)
-opens_idle (Closing s) e = let z : ◌≡◌ {A = ℕ} 0 1 = cc in absurd (omega arith)
+opens_idle st e = absurd cc
 
 pub publishes_open : (st : Stage) → allows st column.Publish ≡ true → st ≡ Open (serial_of st)
-publishes_open Idle e = let z : ◌≡◌ {A = ℕ} 0 1 = cc in absurd (omega arith)
-publishes_open (Opening a b) e = let z : ◌≡◌ {A = ℕ} 0 1 = cc in absurd (omega arith)
 publishes_open (Open s) e = refl
-publishes_open (Offering r s) e = let z : ◌≡◌ {A = ℕ} 0 1 = cc in absurd (omega arith)
-publishes_open (Offered s) e = let z : ◌≡◌ {A = ℕ} 0 1 = cc in absurd (omega arith)
-publishes_open (Closing s) e = let z : ◌≡◌ {A = ℕ} 0 1 = cc in absurd (omega arith)
+publishes_open st e = absurd cc
 
 pub steps_moving : (st : Stage) → allows st column.Step ≡ true → task_at st ≡ resting → ⊥
-steps_moving Idle e r = let z : ◌≡◌ {A = ℕ} 0 1 = cc in omega arith
-steps_moving (Opening a b) e r = let z : ◌≡◌ {A = ℕ} 0 1 = cc in omega arith
-steps_moving (Open s) e r = let z : ◌≡◌ {A = ℕ} 0 1 = cc in omega arith
-steps_moving (Offering t s) e r = let z : ◌≡◌ {A = ℕ} 0 1 = cc in omega arith
-steps_moving (Offered s) e r = let z : ◌≡◌ {A = ℕ} 0 1 = cc in omega arith
-steps_moving (Closing s) e r = let z : ◌≡◌ {A = ℕ} 0 1 = cc in omega arith
+steps_moving Idle e r = cc
+steps_moving st e r = cc
 
 -- where something is unfinished steps are left
 left_some : (st : Stage) (n : ℕ) → Paced st n → (task_at st ≡ resting → ⊥) → 0 < n
-left_some Idle n p b = absurd (b refl)
 left_some (Opening a c) n p b = p
-left_some (Open s) n p b = absurd (b refl)
 left_some (Offering r s) n p b = p
-left_some (Offered s) n p b = absurd (b refl)
 left_some (Closing s) n p b = p
+left_some st n p b = absurd (b refl)
 
 engaged_from : (s : ℕ) (o : Option ℕ) → 0 < named s o → o ≡ Some s
 engaged_from s None h = absurd (omega arith)
@@ -82,11 +68,7 @@ reached_laws (after c r p d l) = l
 
 idle_is : (st : Stage) → idle st ≡ true → st ≡ Idle
 idle_is Idle e = refl
-idle_is (Opening a b) e = let z : ◌≡◌ {A = ℕ} 0 1 = cc in absurd (omega arith)
-idle_is (Open s) e = let z : ◌≡◌ {A = ℕ} 0 1 = cc in absurd (omega arith)
-idle_is (Offering r s) e = let z : ◌≡◌ {A = ℕ} 0 1 = cc in absurd (omega arith)
-idle_is (Offered s) e = let z : ◌≡◌ {A = ℕ} 0 1 = cc in absurd (omega arith)
-idle_is (Closing s) e = let z : ◌≡◌ {A = ℕ} 0 1 = cc in absurd (omega arith)
+idle_is st e = absurd cc
 
 idle_all : (m : Meaning) (n : ℕ) → idle_below m n ≡ true → (p : ℕ) → p < n → stage_of m p ≡ Idle
 idle_all m zero e p l = absurd (omega arith)
@@ -124,7 +106,7 @@ meant_start leaf ls w f laws =
     record {
       now = r.serial;
       opens = λ p. sym (ap opened_at (r.resting p));
-      began = λ p a b h. let q : Idle ≡ Opening a b = sym (r.resting p) ∙ h in let z : ◌≡◌ {A = ℕ} 0 1 = cc in absurd (omega arith);
+      began = λ p a b h. let q : Idle ≡ Opening a b = sym (r.resting p) ∙ h in absurd cc;
       about = λ p. sym (ap task_at (r.resting p));
       timely = λ p b. absurd (b (ap task_at (r.resting p)));
       kept = λ s h. let e : s ≡ m.current.serial = omega (arith, h, r.serial) in

@@ -19,20 +19,18 @@ src ss i = slice_index_or ss i source.Empty
 
 -- a place that a source names is there
 abbrev pub ranged : Source → Bool
-ranged source.Empty = true
-ranged (source.Number n) = true
 ranged (source.Reading a) = nat_lt a 8
 ranged (source.Building b) = nat_lt b 8
+ranged s = true
 
 abbrev pub all_ranged : List Source → Bool
 all_ranged ss = ranged (src ss 0) && (ranged (src ss 1) && (ranged (src ss 2) && ranged (src ss 3)))
 
 -- a place that a source names is not empty in the program's row
 abbrev pub given : Row → Source → Bool
-given r source.Empty = true
-given r (source.Number n) = true
 given r (source.Reading a) = is_some (slice_index_or r.reading a None)
 given r (source.Building b) = is_some (slice_index_or r.building b None)
+given r s = true
 
 abbrev pub all_given : Row → List Source → Bool
 all_given r ss = given r (src ss 0) && (given r (src ss 1) && (given r (src ss 2) && given r (src ss 3)))

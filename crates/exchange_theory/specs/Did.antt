@@ -15,51 +15,32 @@ use Rattle.exchange_theory.specs.Building.{Builds, Sweeps}
 -- an open, a publish or a close answers that it has begun
 abbrev pub AsBegun : {T : Type 0} → (Result (Unit {0}) Fault → Type 0) → Result (Answer T) Fault → Type 0
 AsBegun P (Ok answer.Begun) = P (Ok tt)
-AsBegun P (Ok (answer.Stepped o)) = ⊥
-AsBegun P (Ok answer.Done) = ⊥
-AsBegun P (Ok (answer.Shown s)) = ⊥
-AsBegun P (Ok answer.Swept) = ⊥
-AsBegun P (Ok answer.Unswept) = ⊥
+AsBegun P (Ok a) = ⊥
 AsBegun P (Err f) = P (Err f)
 
 -- a step answers what it came to
 abbrev pub AsStepped : {T : Type 0} → (Result Outcome Fault → Type 0) → Result (Answer T) Fault → Type 0
-AsStepped P (Ok answer.Begun) = ⊥
 AsStepped P (Ok (answer.Stepped o)) = P (Ok o)
-AsStepped P (Ok answer.Done) = ⊥
-AsStepped P (Ok (answer.Shown s)) = ⊥
-AsStepped P (Ok answer.Swept) = ⊥
-AsStepped P (Ok answer.Unswept) = ⊥
+AsStepped P (Ok a) = ⊥
 AsStepped P (Err f) = P (Err f)
 
 -- a root, a down or a build answers that it is done
 abbrev pub AsDone : {T : Type 0} → (Result (Unit {0}) Fault → Type 0) → Result (Answer T) Fault → Type 0
-AsDone P (Ok answer.Begun) = ⊥
-AsDone P (Ok (answer.Stepped o)) = ⊥
 AsDone P (Ok answer.Done) = P (Ok tt)
-AsDone P (Ok (answer.Shown s)) = ⊥
-AsDone P (Ok answer.Swept) = ⊥
-AsDone P (Ok answer.Unswept) = ⊥
+AsDone P (Ok a) = ⊥
 AsDone P (Err f) = P (Err f)
 
 -- a look answers what is shown
 abbrev pub AsShown : {T : Type 0} → (Result (Shown T) Fault → Type 0) → Result (Answer T) Fault → Type 0
-AsShown P (Ok answer.Begun) = ⊥
-AsShown P (Ok (answer.Stepped o)) = ⊥
-AsShown P (Ok answer.Done) = ⊥
 AsShown P (Ok (answer.Shown s)) = P (Ok s)
-AsShown P (Ok answer.Swept) = ⊥
-AsShown P (Ok answer.Unswept) = ⊥
+AsShown P (Ok a) = ⊥
 AsShown P (Err f) = P (Err f)
 
 -- a sweep answers whether it swept a cell
 abbrev pub AsSwept : {T : Type 0} → (Result Bool Fault → Type 0) → Result (Answer T) Fault → Type 0
-AsSwept P (Ok answer.Begun) = ⊥
-AsSwept P (Ok (answer.Stepped o)) = ⊥
-AsSwept P (Ok answer.Done) = ⊥
-AsSwept P (Ok (answer.Shown s)) = ⊥
 AsSwept P (Ok answer.Swept) = P (Ok true)
 AsSwept P (Ok answer.Unswept) = P (Ok false)
+AsSwept P (Ok a) = ⊥
 AsSwept P (Err f) = P (Err f)
 
 -- the call c with the answer r led from the world w to the world v

@@ -1,7 +1,7 @@
 -- The calls that turn to the keeper: open, publish, close and step.
 use Rattle.std.specs.Prelude.{◌≡◌, ℕ, true, Some, None, Ok, Option, Result, nat_lt}
 use Rattle.keeper.specs.declared.outcome.Outcome.{Outcome}
-use Rattle.keeper.specs.declared.outcome.Outcome.TheVariants.{GoesOn, Opened, Accepted, Stale, Nothing, HandedOut}
+use Rattle.keeper.specs.declared.outcome.Outcome.TheVariants.{Accepted, HandedOut}
 use Rattle.keeper.specs.declared.fault.Fault.{Fault}
 use Rattle.keeper.specs.Effects.{open_fault, publish_fault, close_fault, step_fault, root_answer, OpenDone, PublishDone, CloseDone, StepDone}
 use Rattle.cells_theory.specs.LetGo.{let_go}
@@ -57,12 +57,9 @@ step_refusal w p = admits w p true column.Step (step_fault w.keeper p)
 -- what the answer of a keeper's step brings about: where an offer was accepted the offered place becomes empty, and its count passes to
 -- the version; where a version was handed out the remembered root is let go; else nothing
 abbrev pub settles : {T : Type 0} → Outcome → ℕ → World T → World T
-settles GoesOn p w = w
-settles (Opened s) p w = w
 settles (Accepted s) p w = building p (offered_at w p) None w
-settles Stale p w = w
-settles Nothing p w = w
 settles (HandedOut s) p w = storing (let_go (closed_at w p) (memory_of w)) w
+settles o p w = w
 
 pub record StepTakes {T : Type 0} (p : ℕ) (o : Outcome) (w v : World T) : Type 0 where
   pub keeper : StepDone w.keeper p v.keeper o

@@ -1,11 +1,11 @@
 -- What is known of the moments of a run beside what is promised of every run. A moment follows the making or a call.
-use Rattle.std.specs.Prelude.{◌≡◌, ℕ, Bool, false, List, [], ◌∷◌, Some, Ok, Err, Result, ◌==◌}
+use Rattle.std.specs.Prelude.{◌≡◌, ℕ, Bool, false, List, [], ◌∷◌, Some, Ok, Result, ◌==◌}
 use Rattle.keeper.specs.declared.outcome.Outcome.TheVariants.{Opened}
 use Rattle.keeper.specs.declared.fault.Fault.{Fault}
 use Rattle.keeper.specs.Stages.{has}
 use Rattle.keeper.specs.Meaning.{stage_of}
 use Rattle.exchange_theory.specs.declared.calls.Call.{Call}
-use Rattle.exchange_theory.specs.declared.calls.Call.TheVariants.{Open, Publish, Close, Step, Root, Down, Look, Build, Sweep}
+use Rattle.exchange_theory.specs.declared.calls.Call.TheVariants.{Open}
 use Rattle.exchange_theory.specs.declared.calls.Answer.{Answer}
 use Rattle.exchange_theory.specs.World.{World}
 use Rattle.exchange_theory.specs.History.{Event, story}
@@ -19,15 +19,7 @@ Throughout P (e ∷ h) = P e h × Throughout P h
 -- whether a call with its answer is an open of program p that was not refused
 abbrev pub is_open_of : {T : Type 0} → Call T → Result (Answer T) Fault → ℕ → Bool
 is_open_of (Open q) (Ok a) p = p == q
-is_open_of (Open q) (Err f) p = false
-is_open_of (Publish q b) r p = false
-is_open_of (Close q) r p = false
-is_open_of (Step q) r p = false
-is_open_of (Root q a) r p = false
-is_open_of (Down q a f b) r p = false
-is_open_of (Look q a) r p = false
-is_open_of (Build q b ss leaf) r p = false
-is_open_of Sweep r p = false
+is_open_of c r p = false
 
 -- serial s was current at the last moment of the run, or at an earlier one that program p's last call of open had come before
 pub data CurrentSinceOpen {T : Type 0} (leaf : T) (p s : ℕ) : List (Event T) → Type 0 where

@@ -208,12 +208,8 @@ tell_step p (HandedOut s) S = hands_out s (takes p resting S)
 
 -- a step is told by its answer
 abbrev pub tell_answer : {T : Type 0} → ℕ → Answer T → Story T → Story T
-tell_answer p answer.Begun S = S
 tell_answer p (answer.Stepped o) S = tell_step p o S
-tell_answer p answer.Done S = S
-tell_answer p (answer.Shown s) S = S
-tell_answer p answer.Swept S = S
-tell_answer p answer.Unswept S = S
+tell_answer p a S = S
 
 -- the tree of the version that a program opened, empty where it has none open
 abbrev pub tree_of : {T : Type 0} → Story T → Option ℕ → Tree T
@@ -233,21 +229,13 @@ tree_from S p ss leaf = node leaf (sourced S p (src ss 0)) (sourced S p (src ss 
 
 -- what a call tells with its answer: a refused call tells nothing
 abbrev pub tell : {T : Type 0} → Call T → Result (Answer T) Fault → Story T → Story T
+tell c (Err f) S = S
 tell (Open p) (Ok a) S = calls_open p S
-tell (Open p) (Err f) S = S
 tell (Publish p b) (Ok a) S = calls_publish p b S
-tell (Publish p b) (Err f) S = S
 tell (Close p) (Ok a) S = calls_close p S
-tell (Close p) (Err f) S = S
 tell (Step p) (Ok a) S = tell_answer p a S
-tell (Step p) (Err f) S = S
 tell (Root p a) (Ok x) S = reads p a (tree_of S (S.opened p)) S
-tell (Root p a) (Err f) S = S
 tell (Down p a k b) (Ok x) S = reads p b (child k (S.reading p a)) S
-tell (Down p a k b) (Err f) S = S
 tell (Look p a) (Ok x) S = S
-tell (Look p a) (Err f) S = S
 tell (Build p b ss leaf) (Ok x) S = builds p b (tree_from S p ss leaf) S
-tell (Build p b ss leaf) (Err f) S = S
 tell Sweep (Ok x) S = S
-tell Sweep (Err f) S = S

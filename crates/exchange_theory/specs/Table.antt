@@ -8,46 +8,30 @@ use Rattle.exchange_theory.specs.declared.column.Column.TheVariants as column
 -- a program that is idle may open
 abbrev pub when_idle : Column → Bool
 when_idle column.Open = true
-when_idle column.Publish = false
-when_idle column.Close = false
-when_idle column.Step = false
-when_idle column.Root = false
-when_idle column.Down = false
-when_idle column.Look = false
-when_idle column.Build = false
+when_idle c = false
 
 -- one that is opening, offering or closing may step
 abbrev pub when_moving : Column → Bool
-when_moving column.Open = false
-when_moving column.Publish = false
-when_moving column.Close = false
 when_moving column.Step = true
-when_moving column.Root = false
-when_moving column.Down = false
-when_moving column.Look = false
-when_moving column.Build = false
+when_moving c = false
 
 -- one that is open may publish, close, read and build
 abbrev pub when_open : Column → Bool
-when_open column.Open = false
 when_open column.Publish = true
 when_open column.Close = true
-when_open column.Step = false
 when_open column.Root = true
 when_open column.Down = true
 when_open column.Look = true
 when_open column.Build = true
+when_open c = false
 
 -- one that has offered may close and read
 abbrev pub when_offered : Column → Bool
-when_offered column.Open = false
-when_offered column.Publish = false
 when_offered column.Close = true
-when_offered column.Step = false
 when_offered column.Root = true
 when_offered column.Down = true
 when_offered column.Look = true
-when_offered column.Build = false
+when_offered c = false
 
 abbrev pub allows : Stage → Column → Bool
 allows Idle c = when_idle c
