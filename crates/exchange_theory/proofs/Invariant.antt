@@ -1,5 +1,5 @@
 -- In every reached world the keeper means, and the cells hold, what the run tells.
-use Rattle.std.proofs.Common.{◌≡◌, ℕ, zero, suc, ◌+◌, ◌<◌, Bool, true, false, cond, ◌&&◌, eqb, ltb, leb, List, [], ◌∷◌, length, get_or, set, replicate, Some, None, Ok, Option, Result, sym, refl, ap, ◌∙◌, subst, ⊎_elim, arith}
+use Rattle.std.proofs.Common.{◌≡◌, ℕ, zero, suc, ◌+◌, ◌<◌, true, false, cond, ◌&&◌, eqb, ltb, leb, List, [], ◌∷◌, length, get_or, set, replicate, Some, None, Ok, Option, Result, sym, refl, ap, ◌∙◌, subst, ⊎_elim, arith}
 use Rattle.std.proofs.lemmas.List.{length-set, get_or-replicate}
 use Rattle.std.proofs.lemmas.Bool.{cases_eq, cases_lt, eq-eqb, eqb-true, leb-true, ltb-true, and_parts, cond_both}
 use Rattle.keeper.specs.declared.version.Version.{Version}
@@ -150,12 +150,16 @@ close_serial st s a e = absurd cc
 build_offers_not : (st : Stage) (r s : ℕ) → allows st column.Build ≡ true → st ≡ Offering r s → ⊥
 build_offers_not st r s a e = let g : false ≡ true = sym (ap (λ (x : Stage). allows x column.Build) e) ∙ a in cc
 
-pub placed_some : (o : Option ℕ) (c : ℕ) → placed o ≡ field.Cell c → o ≡ Some c
+placed_some : (o : Option ℕ) (c : ℕ) → placed o ≡ field.Cell c → o ≡ Some c
 placed_some None c e = absurd cc
 placed_some (Some d) c e = cc
 
-pub four : (x y z u : Bool) → (x && (y && (z && u))) ≡ true → (x ≡ true) × (y ≡ true) × (z ≡ true) × (u ≡ true)
-four x y z u e = let a = and_parts x (y && (z && u)) e in let b = and_parts y (z && u) a.1 in let c = and_parts z u b.1 in (a.0, b.0, c.0, c.1)
+-- the places that four sources name are there
+ranged_parts : (ss : List Source) → all_ranged ss ≡ true → (ranged (src ss 0) ≡ true) × (ranged (src ss 1) ≡ true) × (ranged (src ss 2) ≡ true) × (ranged (src ss 3) ≡ true)
+ranged_parts ss e =
+    let a = and_parts (ranged (src ss 0)) (ranged (src ss 1) && (ranged (src ss 2) && ranged (src ss 3))) e in
+    let b = and_parts (ranged (src ss 1)) (ranged (src ss 2) && ranged (src ss 3)) a.1 in
+    let c = and_parts (ranged (src ss 2)) (ranged (src ss 3)) b.1 in (a.0, b.0, c.0, c.1)
 
 module _ {T : Type 0} (S : Story T) (w : World T) (laws : Laws w.keeper) (i : MeantBy S w.keeper) (h : HeldBy S w) where
   -- the sources of a build
@@ -172,10 +176,10 @@ module _ {T : Type 0} (S : Story T) (w : World T) (laws : Laws w.keeper) (i : Me
   source_stands p (source.Building b) lp g = h.stood.built p b lp (ltb-true b 8 g)
 
   pub sources_live : (p : ℕ) (ss : List Source) → p < 8 → all_ranged ss ≡ true → LiveFields (memory_of w) (fields_from (row_at w p) ss)
-  sources_live p ss lp g zero c l e = source_live p (src ss 0) c lp (four (ranged (src ss 0)) (ranged (src ss 1)) (ranged (src ss 2)) (ranged (src ss 3)) g).0 e
-  sources_live p ss lp g (suc zero) c l e = source_live p (src ss 1) c lp (four (ranged (src ss 0)) (ranged (src ss 1)) (ranged (src ss 2)) (ranged (src ss 3)) g).1 e
-  sources_live p ss lp g (suc (suc zero)) c l e = source_live p (src ss 2) c lp (four (ranged (src ss 0)) (ranged (src ss 1)) (ranged (src ss 2)) (ranged (src ss 3)) g).2 e
-  sources_live p ss lp g (suc (suc (suc zero))) c l e = source_live p (src ss 3) c lp (four (ranged (src ss 0)) (ranged (src ss 1)) (ranged (src ss 2)) (ranged (src ss 3)) g).3 e
+  sources_live p ss lp g zero c l e = source_live p (src ss 0) c lp (ranged_parts ss g).0 e
+  sources_live p ss lp g (suc zero) c l e = source_live p (src ss 1) c lp (ranged_parts ss g).1 e
+  sources_live p ss lp g (suc (suc zero)) c l e = source_live p (src ss 2) c lp (ranged_parts ss g).2 e
+  sources_live p ss lp g (suc (suc (suc zero))) c l e = source_live p (src ss 3) c lp (ranged_parts ss g).3 e
   sources_live p ss lp g (suc (suc (suc (suc k)))) c l e = absurd (omega arith)
 
   eight : (p : ℕ) → p < w.programs → p < 8
@@ -291,7 +295,7 @@ module _ {T : Type 0} (S : Story T) (w : World T) (laws : Laws w.keeper) (i : Me
   held_built v p b ss leaf g o =
       let r = and_parts (ltb b 8) (all_ranged ss) g.range in
       let lp = eight p g.program in
-      let f = four (ranged (src ss 0)) (ranged (src ss 1)) (ranged (src ss 2)) (ranged (src ss 3)) r.1 in
+      let f = ranged_parts ss r.1 in
       subst (λ (x : World T). HeldBy (builds p b (tree_from S p ss leaf) S) x) (sym o.after)
       (held_build S.version S.reading S.building S.offers w laws h p b o.cell (fields_from (row_at w p) ss) leaf
       (sourced S p (src ss 0)) (sourced S p (src ss 1)) (sourced S p (src ss 2)) (sourced S p (src ss 3)) g.program (ltb-true b 8 r.0)

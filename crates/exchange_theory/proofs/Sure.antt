@@ -64,46 +64,22 @@ clean_passing : (o rest : Option Fault) → Clean o → Clean rest → Clean (pa
 clean_passing None rest a b = b
 clean_passing (Some f) rest a b = a
 
-no_program : NoProgram ≡ Damaged → ⊥
-no_program e = cc
-
-wrong_memory : WrongMemory ≡ Damaged → ⊥
-wrong_memory e = cc
-
-out_of_range : OutOfRange ≡ Damaged → ⊥
-out_of_range e = cc
-
-stage_forbids : StageForbids ≡ Damaged → ⊥
-stage_forbids e = cc
-
-place_empty : PlaceEmpty ≡ Damaged → ⊥
-place_empty e = cc
-
-no_cell_not_damaged : NoCell ≡ Damaged → ⊥
-no_cell_not_damaged e = cc
-
-no_free_cell_not_damaged : NoFreeCell ≡ Damaged → ⊥
-no_free_cell_not_damaged e = cc
-
-last_serial : LastSerial ≡ Damaged → ⊥
-last_serial e = cc
-
 clean_filled : (o : Option ℕ) (rest : Option Fault) → Clean rest → Clean (filled o rest)
-clean_filled None rest k = clean_by layer.Exchange PlaceEmpty place_empty
+clean_filled None rest k = clean_by layer.Exchange PlaceEmpty (λ e. cc)
 clean_filled (Some c) rest k = k
 
 -- what the keeper refuses
 clean_two : (a b : Bool) → Clean (unless a NoProgram (unless b StageForbids None))
-clean_two a b = clean_unless a NoProgram (unless b StageForbids None) no_program (λ _. clean_unless b StageForbids None stage_forbids (λ _. clean_none))
+clean_two a b = clean_unless a NoProgram (unless b StageForbids None) (λ e. cc) (λ _. clean_unless b StageForbids None (λ e. cc) (λ _. clean_none))
 
 clean_three : (a b c : Bool) → Clean (unless a NoProgram (unless b StageForbids (unless c LastSerial None)))
-clean_three a b c = clean_unless a NoProgram (unless b StageForbids (unless c LastSerial None)) no_program
-    (λ _. clean_unless b StageForbids (unless c LastSerial None) stage_forbids (λ _. clean_unless c LastSerial None last_serial (λ _. clean_none)))
+clean_three a b c = clean_unless a NoProgram (unless b StageForbids (unless c LastSerial None)) (λ e. cc)
+    (λ _. clean_unless b StageForbids (unless c LastSerial None) (λ e. cc) (λ _. clean_unless c LastSerial None (λ e. cc) (λ _. clean_none)))
 
 clean_root : (m : Meaning) (b : Bool) (o : Option ℕ) → Clean (fault_of (cond b (root_of m o) (Err (fault NoProgram))))
-clean_root m true None = clean_by layer.Keeper StageForbids stage_forbids
+clean_root m true None = clean_by layer.Keeper StageForbids (λ e. cc)
 clean_root m true (Some s) = clean_none
-clean_root m false o = clean_by layer.Keeper NoProgram no_program
+clean_root m false o = clean_by layer.Keeper NoProgram (λ e. cc)
 
 -- a root below N is followed
 clean_followed : (n : ℕ) (x : Result ℕ Fault) → Clean (fault_of x) → ((r : ℕ) → x ≡ Ok r → r < n) → Clean (root_fault n x)
@@ -111,8 +87,8 @@ clean_followed n (Ok r) k low = subst (λ (b : Bool). Clean (cond b None (Some d
 clean_followed n (Err f) k low = k
 
 clean_field : (f : Field) → Clean (no_cell (Ok f))
-clean_field field.Empty = clean_by layer.Exchange NoCell no_cell_not_damaged
-clean_field (field.Number n) = clean_by layer.Exchange NoCell no_cell_not_damaged
+clean_field field.Empty = clean_by layer.Exchange NoCell (λ e. cc)
+clean_field (field.Number n) = clean_by layer.Exchange NoCell (λ e. cc)
 clean_field (field.Cell c) = clean_none
 
 clean_fault : {A : Type 0} (x : Result A Fault) → ((f : Fault) → x ≡ Err f → f.refusal ≡ Damaged → ⊥) → Clean (fault_of x)
@@ -122,11 +98,11 @@ clean_fault (Err g) k = λ f e d. let q : g ≡ f = cc in k f (ap Err q) d
 clean_admits : {T : Type 0} (w : World T) (p : ℕ) (rg : Bool) (c : Column) (rest : Option Fault)
     → (p < w.programs → rg ≡ true → p < w.keeper.programs → allows (stage_of w.keeper p) c ≡ true → Clean rest) → Clean (admits w p rg c rest)
 clean_admits w p rg c rest k =
-    clean_refuse (ltb p w.programs) NoProgram _ no_program (λ a.
-    clean_refuse (sized w) WrongMemory _ wrong_memory (λ b.
-    clean_refuse rg OutOfRange _ out_of_range (λ d.
-    clean_unless (ltb p w.keeper.programs) NoProgram _ no_program (λ e.
-    clean_refuse (allows (stage_of w.keeper p) c) StageForbids rest stage_forbids (λ g. k (ltb-true p w.programs a) d (ltb-true p w.keeper.programs e) g)))))
+    clean_refuse (ltb p w.programs) NoProgram _ (λ e. cc) (λ a.
+    clean_refuse (sized w) WrongMemory _ (λ e. cc) (λ b.
+    clean_refuse rg OutOfRange _ (λ e. cc) (λ d.
+    clean_unless (ltb p w.keeper.programs) NoProgram _ (λ e. cc) (λ e.
+    clean_refuse (allows (stage_of w.keeper p) c) StageForbids rest (λ e. cc) (λ g. k (ltb-true p w.programs a) d (ltb-true p w.keeper.programs e) g)))))
 
 -- the answer of a look at a node
 abbrev SeenOk : {T : Type 0} → T → Tree T → Tree T → Tree T → Tree T → Shown T → Type 0
@@ -134,12 +110,12 @@ SeenOk {T} t x₀ x₁ x₂ x₃ s = ◌≡◌ {A = Result (Shown T) Fault} (Ok 
 
 module _ {T : Type 0} (S : Story T) (w : World T) (laws : Laws w.keeper) (i : MeantBy S w.keeper) (h : HeldBy S w) where
   clean_down : (p a k : ℕ) (o : Option ℕ) → reading_at w p a ≡ o → p < 8 → a < 8 → k < 4 → Clean (down_fault w.cells k o)
-  clean_down p a k None e lp la lk = clean_by layer.Exchange PlaceEmpty place_empty
+  clean_down p a k None e lp la lk = clean_by layer.Exchange PlaceEmpty (λ e. cc)
   clean_down p a k (Some c) e lp la lk =
       subst (λ (x : Result Field Fault). Clean (no_cell x)) (sym (follows S w laws i h c k (read_live S.version S.reading S.building S.offers w laws h p a c lp la e) lk)) (clean_field (field_at w.cells c k))
 
   clean_look : (p a : ℕ) (o : Option ℕ) → reading_at w p a ≡ o → p < 8 → a < 8 → Clean (look_fault w.cells w.leaves o)
-  clean_look p a None e lp la = clean_by layer.Exchange PlaceEmpty place_empty
+  clean_look p a None e lp la = clean_by layer.Exchange PlaceEmpty (λ e. cc)
   clean_look p a (Some c) e lp la =
       let l = (read_live S.version S.reading S.building S.offers w laws h p a c lp la e).0 in
       let g : c < length w.leaves = omega (arith, l, h.shaped.cells_fit, h.shaped.leaves_fit) in
@@ -184,14 +160,14 @@ module _ {T : Type 0} (S : Story T) (w : World T) (laws : Laws w.keeper) (i : Me
 
   build_clean : (p b : ℕ) (ss : List Source) (leaf : T) → Clean (build_refusal w p b ss)
   build_clean p b ss leaf = clean_admits w p (ltb b 8 && all_ranged ss) column.Build (refuse (all_given (row_at w p) ss) PlaceEmpty (fault_of (new_cell w p ss)))
-      (λ lp rg seat al. clean_refuse (all_given (row_at w p) ss) PlaceEmpty (fault_of (new_cell w p ss)) place_empty (λ _. clean_fault (new_cell w p ss) (λ f e d.
+      (λ lp rg seat al. clean_refuse (all_given (row_at w p) ss) PlaceEmpty (fault_of (new_cell w p ss)) (λ e. cc) (λ _. clean_fault (new_cell w p ss) (λ f e d.
       let x = and_parts (ltb b 8) (all_ranged ss) rg in
       let q : f ≡ no_free_cell = build_promises (fields_from (row_at w p) ss) leaf (memory_of w) w.leaves (Err f) (memory_of w) w.leaves (sym e) refl refl (names w) h.sound
       (sources_live S w laws i h p ss (eight p lp) x.1) (omega (arith, h.shaped.cells_fit, h.shaped.leaves_fit)) (omega (arith, names_few, h.shaped.cells_fit, h.shaped.most, h.shaped.few)) in
-      no_free_cell_not_damaged (sym (ap (λ (y : Fault). y.refusal) q) ∙ d))))
+      let z : NoFreeCell ≡ Damaged = sym (ap (λ (y : Fault). y.refusal) q) ∙ d in cc)))
 
   sweep_clean : Clean (sweep_refusal w)
-  sweep_clean = clean_refuse (sized w) WrongMemory (fault_of (first_waiting w)) wrong_memory (λ _. clean_fault (first_waiting w) (λ f e d.
+  sweep_clean = clean_refuse (sized w) WrongMemory (fault_of (first_waiting w)) (λ e. cc) (λ _. clean_fault (first_waiting w) (λ f e d.
       sweep_promises (memory_of w) w.leaves (Err f) (memory_of w) (sym e) refl (names w) h.sound (omega (arith, h.shaped.cells_fit, h.shaped.leaves_fit))))
 
   -- of a refusal x with fault g, f is g

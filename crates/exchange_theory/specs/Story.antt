@@ -64,138 +64,39 @@ start leaf = record {
 
 -- program p called open
 abbrev pub calls_open : {T : Type 0} → ℕ → Story T → Story T
-calls_open p S = record {
-  current = S.current;
-  version = S.version;
-  reading = S.reading;
-  building = S.building;
-  opened = S.opened;
-  since = at S.since p S.current;
-  offers = S.offers;
-  task = at S.task p opening;
-  taken = at S.taken p 0;
-  gone = S.gone;
-}
+calls_open p S = record S { since = at S.since p S.current; task = at S.task p opening; taken = at S.taken p 0 }
 
 -- program p called publish of building place b
 abbrev pub calls_publish : {T : Type 0} → ℕ → ℕ → Story T → Story T
-calls_publish p b S = record {
-  current = S.current;
-  version = S.version;
-  reading = S.reading;
-  building = S.building;
-  opened = S.opened;
-  since = S.since;
-  offers = at S.offers p b;
-  task = at S.task p publishing;
-  taken = at S.taken p 0;
-  gone = S.gone;
-}
+calls_publish p b S = record S { offers = at S.offers p b; task = at S.task p publishing; taken = at S.taken p 0 }
 
 -- program p called close: its places are empty from now on
 abbrev pub calls_close : {T : Type 0} → ℕ → Story T → Story T
-calls_close p S = record {
-  current = S.current;
-  version = S.version;
-  reading = at S.reading p (λ a. empty);
-  building = at S.building p (λ b. empty);
-  opened = at S.opened p None;
-  since = S.since;
-  offers = S.offers;
-  task = at S.task p closing;
-  taken = at S.taken p 0;
-  gone = S.gone;
-}
+calls_close p S = record S { reading = at S.reading p (λ a. empty); building = at S.building p (λ b. empty); opened = at S.opened p None; task = at S.task p closing; taken = at S.taken p 0 }
 
 -- program p took a step, after which it is about t
 abbrev pub takes : {T : Type 0} → ℕ → Task → Story T → Story T
-takes p t S = record {
-  current = S.current;
-  version = S.version;
-  reading = S.reading;
-  building = S.building;
-  opened = S.opened;
-  since = S.since;
-  offers = S.offers;
-  task = at S.task p t;
-  taken = at S.taken p (S.taken p + 1);
-  gone = S.gone;
-}
+takes p t S = record S { task = at S.task p t; taken = at S.taken p (S.taken p + 1) }
 
 -- program p's open ended on s
 abbrev pub ends_open : {T : Type 0} → ℕ → ℕ → Story T → Story T
-ends_open p s S = record {
-  current = S.current;
-  version = S.version;
-  reading = S.reading;
-  building = S.building;
-  opened = at S.opened p (Some s);
-  since = S.since;
-  offers = S.offers;
-  task = S.task;
-  taken = S.taken;
-  gone = S.gone;
-}
+ends_open p s S = record S { opened = at S.opened p (Some s) }
 
 -- program p's publish was accepted: the next version has the tree of the offered place, which becomes empty
 abbrev pub ends_accepted : {T : Type 0} → ℕ → Story T → Story T
-ends_accepted p S = record {
-  current = S.current + 1;
-  version = at S.version (S.current + 1) (S.building p (S.offers p));
-  reading = S.reading;
-  building = at_place S.building p (S.offers p) empty;
-  opened = S.opened;
-  since = S.since;
-  offers = S.offers;
-  task = S.task;
-  taken = S.taken;
-  gone = S.gone;
-}
+ends_accepted p S = record S { current = S.current + 1; version = at S.version (S.current + 1) (S.building p (S.offers p)); building = at_place S.building p (S.offers p) empty }
 
 -- s was handed out
 abbrev pub hands_out : {T : Type 0} → ℕ → Story T → Story T
-hands_out s S = record {
-  current = S.current;
-  version = S.version;
-  reading = S.reading;
-  building = S.building;
-  opened = S.opened;
-  since = S.since;
-  offers = S.offers;
-  task = S.task;
-  taken = S.taken;
-  gone = at S.gone s true;
-}
+hands_out s S = record S { gone = at S.gone s true }
 
 -- a tree was put into reading place a of program p
 abbrev pub reads : {T : Type 0} → ℕ → ℕ → Tree T → Story T → Story T
-reads p a x S = record {
-  current = S.current;
-  version = S.version;
-  reading = at_place S.reading p a x;
-  building = S.building;
-  opened = S.opened;
-  since = S.since;
-  offers = S.offers;
-  task = S.task;
-  taken = S.taken;
-  gone = S.gone;
-}
+reads p a x S = record S { reading = at_place S.reading p a x }
 
 -- a tree was put into building place b of program p
 abbrev pub builds : {T : Type 0} → ℕ → ℕ → Tree T → Story T → Story T
-builds p b x S = record {
-  current = S.current;
-  version = S.version;
-  reading = S.reading;
-  building = at_place S.building p b x;
-  opened = S.opened;
-  since = S.since;
-  offers = S.offers;
-  task = S.task;
-  taken = S.taken;
-  gone = S.gone;
-}
+builds p b x S = record S { building = at_place S.building p b x }
 
 -- what an accepted step of program p tells
 abbrev pub tell_step : {T : Type 0} → ℕ → Outcome → Story T → Story T
