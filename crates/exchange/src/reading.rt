@@ -31,7 +31,11 @@ impl<K: Keeper> Exchange<K> {
         if root >= self.desk.places.cells {
             return Err(damaged());
         }
-        let row = self.desk.places.row(program).with_reading(place, Some(root));
+        let row = self
+            .desk
+            .places
+            .row(program)
+            .with_reading(place, Some(root));
         self.desk.places = self.desk.places.with_row(program, row);
         Ok(())
     }

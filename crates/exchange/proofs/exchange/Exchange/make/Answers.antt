@@ -5,14 +5,10 @@ use Rattle.exchange.specs.Making.{fault_alone}
 use Rattle.exchange.specs.Worlds.{world_of}
 use Rattle.exchange.proofs.exchange.Exchange.make.Goals as goal
 
-pub returns : goal.returns
-returns g c =
+pub returns-clause-begins : goal.returns-clause-begins
+returns-clause-begins g c =
     let meaning = g.K.Enquiry.meaning in
     let cells = c.prepare.new.cells in
     let leaves = c.prepare.new.leaves in
-    record {
-      makes = c.prepare.ensures.makes;
-      keeps = c.prepare.ensures.keeps;
-      begins = begins_run c.args.leaf (meaning c.args.keeper) c.args.cells.now c.args.leaves.now (λ (x : Exchange g.row.K.Denot). world_of meaning x cells leaves) cells leaves
-          (fault_alone c.prepare.result) c.prepare.ensures.makes (λ x. g.met.K.Enquiry.sound x.keeper);
-    }
+    begins_run c.args.leaf (meaning c.args.keeper) c.args.cells.now c.args.leaves.now (λ (x : Exchange g.row.K.Denot). world_of meaning x cells leaves) cells leaves
+    (fault_alone c.prepare.result) c.prepare.ensures.makes (λ x. g.met.K.Enquiry.sound x.keeper)
