@@ -7,6 +7,7 @@ ghost use Rattle.exchange.specs.Worlds.{world_of};
 use crate::exchange::Exchange;
 use crate::faults::refused;
 use crate::letting::let_go_named;
+use crate::placing::with_row;
 use crate::sourcing::{all_in_range, fields_from};
 use cells_theory::{Cell, Field, Heads};
 use exchange_theory::{Column, Source};
@@ -57,7 +58,7 @@ impl<K: Keeper> Exchange<K> {
         let cell = fill(cells, leaves, &mut self.desk.heads, fields, leaf)?;
         let_go_named(cells, &mut self.desk.heads, row.building[place as usize]);
         let built = row.with_building(place, Some(cell));
-        self.desk.places = self.desk.places.with_row(program, built);
+        self.desk.places = with_row(self.desk.places, program, built);
         Ok(())
     }
 }

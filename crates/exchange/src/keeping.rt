@@ -4,6 +4,7 @@ ghost use Rattle.exchange.specs.Worlds.{world_of};
 use crate::exchange::Exchange;
 use crate::faults::refused;
 use crate::letting::let_go_all;
+use crate::placing::with_row;
 use cells::let_go;
 use cells_theory::Cell;
 use exchange_theory::{Column, Row};
@@ -38,7 +39,7 @@ impl<K: Keeper> Exchange<K> {
             offered: place,
             ..row
         };
-        self.desk.places = self.desk.places.with_row(program, offering);
+        self.desk.places = with_row(self.desk.places, program, offering);
         Ok(())
     }
 
@@ -58,7 +59,7 @@ impl<K: Keeper> Exchange<K> {
             Outcome::Accepted(_) => {
                 let row = self.desk.places.row(program);
                 let left = row.with_building(row.offered, None);
-                self.desk.places = self.desk.places.with_row(program, left);
+                self.desk.places = with_row(self.desk.places, program, left);
             }
             Outcome::HandedOut(_) => {
                 let root = self.desk.places.row(program).closing;
@@ -83,7 +84,7 @@ impl<K: Keeper> Exchange<K> {
         self.keeper.close(program)?;
         let row = self.desk.places.row(program);
         let_go_all(cells, &mut self.desk.heads, &row.building);
-        self.desk.places = self.desk.places.with_row(program, row.emptied(root));
+        self.desk.places = with_row(self.desk.places, program, row.emptied(root));
         Ok(())
     }
 }

@@ -18,6 +18,8 @@ mod keeping;
 mod letting;
 // Making an exchange.
 mod making;
+// Another row in the table of places.
+mod placing;
 // The calls that read.
 mod reading;
 // What the fields of a new cell are taken from.

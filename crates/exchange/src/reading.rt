@@ -4,6 +4,7 @@ ghost use Rattle.exchange.specs.Worlds.{world_of};
 
 use crate::exchange::Exchange;
 use crate::faults::{damaged, refused};
+use crate::placing::with_row;
 use cells_theory::{Cell, Field, Shown};
 use exchange_theory::Column;
 use keeper::{Enquiry, Fault, Keeper, Refusal};
@@ -36,7 +37,7 @@ impl<K: Keeper> Exchange<K> {
             .places
             .row(program)
             .with_reading(place, Some(root));
-        self.desk.places = self.desk.places.with_row(program, row);
+        self.desk.places = with_row(self.desk.places, program, row);
         Ok(())
     }
 
@@ -62,7 +63,7 @@ impl<K: Keeper> Exchange<K> {
             return Err(refused(Refusal::NoCell));
         };
         let lower = row.with_reading(to, Some(cell));
-        self.desk.places = self.desk.places.with_row(program, lower);
+        self.desk.places = with_row(self.desk.places, program, lower);
         Ok(())
     }
 

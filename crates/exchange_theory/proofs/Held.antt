@@ -1,5 +1,5 @@
 -- The cells hold what the run tells: what is true of the places, the versions and the memory of every reached world.
-use Rattle.std.proofs.Common.{◌≡◌, ℕ, ◌<◌, ◌≤◌, cond, List, [], ◌++◌, map, length, get_or, Some, None, Ok, Err, Option, sym, refl, ap, ◌∙◌, subst, ⊎_elim, arith}
+use Rattle.std.proofs.Common.{◌≡◌, ℕ, ◌<◌, ◌≤◌, cond, List, ◌++◌, map, length, get_or, Some, None, Ok, Err, Option, sym, refl, ap, ◌∙◌, subst, ⊎_elim, arith}
 use Rattle.std.proofs.lemmas.List.{length-set, get_or_past}
 use Rattle.std.proofs.lemmas.Bool.{cases_eq, cases_lt, lt-ltb}
 use Rattle.keeper.specs.declared.version.Version.{Version}
@@ -22,7 +22,7 @@ use Rattle.cells_theory.proofs.Counting.{same_self}
 use Rattle.cells_theory.proofs.Counts.{named_live, sound_like}
 use Rattle.cells_theory.proofs.Reaching.{reached_live}
 use Rattle.exchange_theory.specs.declared.row.Row.{Row}
-use Rattle.exchange_theory.specs.World.{World, row, row_reading, row_at, reading_at, building_at, offered_at, closed_at, memory_of, keeping, with_row, reading, storing, leaving}
+use Rattle.exchange_theory.specs.World.{World, row_reading, row_at, reading_at, building_at, offered_at, closed_at, memory_of, keeping, with_row, reading, storing, leaving, emptied}
 use Rattle.exchange_theory.specs.Building.{placed}
 use Rattle.exchange_theory.specs.Story.{Story, resting, at_place}
 use Rattle.exchange_theory.specs.Promises.{built_in, names}
@@ -144,7 +144,7 @@ module _ {T : Type 0} (version : ℕ → Tree T) (rd bd : ℕ → ℕ → Tree T
   built_named p b c lp lb e =
       let l : p < length w.rows = omega (arith, h.shaped.seats, lp) in
       let n : b < length (row_at w p).building = omega (arith, h.shaped.builds p lp, lb) in
-      omega (arith, names_are w c, total_at (names_in c) w.rows p (row [] [] 0 0) l, total_at (name_by c) (row_at w p).building b None n, ap (name_by c) e, same_self c)
+      omega (arith, names_are w c, total_at (names_in c) w.rows p (emptied 0 0) l, total_at (name_by c) (row_at w p).building b None n, ap (name_by c) e, same_self c)
 
   pub version_live : (s : ℕ) → 0 < times_kept s w.keeper.kept → Live (memory_of w) (root_at s w.keeper.kept)
   version_live s k = named_live (memory_of w) (names w) (root_at s w.keeper.kept) h.sound (version_named s k)

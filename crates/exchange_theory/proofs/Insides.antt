@@ -1,9 +1,9 @@
 -- Places that name cells below a limit: writing one of them, in a row; and reading and writing a row in a table of rows.
-use Rattle.std.proofs.Common.{◌≡◌, ℕ, zero, suc, ◌<◌, true, ◌&&◌, ltb, List, [], ◌∷◌, set, length, Option, refl, arith}
+use Rattle.std.proofs.Common.{◌≡◌, ℕ, zero, suc, ◌<◌, true, ◌&&◌, ltb, List, [], ◌∷◌, set, get_or, length, Option, refl, arith}
 use Rattle.std.proofs.lemmas.Bool.{ltb-true, lt-ltb, and_parts, and_from}
 use Rattle.exchange_theory.specs.declared.row.Row.{Row}
 use Rattle.exchange_theory.specs.Inside.{below, inside, within, all_within}
-use Rattle.exchange_theory.specs.World.{emptied, row_in, row_reading, row_building}
+use Rattle.exchange_theory.specs.World.{emptied, row_reading, row_building}
 
 inside_set : (n : ℕ) (os : List (Option ℕ)) (i : ℕ) (x : Option ℕ) → inside n os ≡ true → below n x ≡ true → inside n (set os i x) ≡ true
 inside_set n [] i x e b = refl
@@ -39,13 +39,13 @@ pub within_emptied : (n c : ℕ) (r : Row) → within n r ≡ true → within n 
 within_emptied n c r e = within_from n (emptied r.offered c) (record { reads = refl; builds = refl; offer = (within_parts n r e).offer })
 
 -- a table of rows: one of them, and another in its place
-pub row_within : (n : ℕ) (rs : List Row) (p : ℕ) → p < length rs → all_within n rs ≡ true → within n (row_in rs p) ≡ true
-row_within n [] p l e = absurd (omega arith)
-row_within n (r ∷ rs) zero l e = (and_parts (within n r) (all_within n rs) e).0
-row_within n (r ∷ rs) (suc p) l e = row_within n rs p (omega arith) (and_parts (within n r) (all_within n rs) e).1
+pub row_within : (n : ℕ) (rs : List Row) (p : ℕ) (d : Row) → p < length rs → all_within n rs ≡ true → within n (get_or rs p d) ≡ true
+row_within n [] p d l e = absurd (omega arith)
+row_within n (r ∷ rs) zero d l e = (and_parts (within n r) (all_within n rs) e).0
+row_within n (r ∷ rs) (suc p) d l e = row_within n rs p d (omega arith) (and_parts (within n r) (all_within n rs) e).1
 
-pub row_low : (n : ℕ) (rs : List Row) (p : ℕ) → p < length rs → all_within n rs ≡ true → (row_in rs p).offered < 8
-row_low n rs p l e = (within_parts n (row_in rs p) (row_within n rs p l e)).offer
+pub row_low : (n : ℕ) (rs : List Row) (p : ℕ) (d : Row) → p < length rs → all_within n rs ≡ true → (get_or rs p d).offered < 8
+row_low n rs p d l e = (within_parts n (get_or rs p d) (row_within n rs p d l e)).offer
 
 pub rows_within : (n : ℕ) (rs : List Row) (p : ℕ) (r : Row) → all_within n rs ≡ true → within n r ≡ true → all_within n (set rs p r) ≡ true
 rows_within n [] p r e w = refl

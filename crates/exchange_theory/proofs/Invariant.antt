@@ -33,7 +33,7 @@ use Rattle.exchange_theory.specs.declared.calls.Source.TheVariants as source
 use Rattle.exchange_theory.specs.declared.calls.Call.{Call}
 use Rattle.exchange_theory.specs.declared.calls.Call.TheVariants.{Open as CallOpen, Publish, Close, Step, Root, Down, Look, Build, Sweep}
 use Rattle.exchange_theory.specs.declared.calls.Answer.{Answer}
-use Rattle.exchange_theory.specs.World.{World, row, emptied, row_at, reading_at, building_at, memory_of, keeping}
+use Rattle.exchange_theory.specs.World.{World, emptied, row_at, reading_at, building_at, memory_of, keeping}
 use Rattle.exchange_theory.specs.Table.{allows}
 use Rattle.exchange_theory.specs.Order.{filled, passing, fault_of, refuse}
 use Rattle.exchange_theory.specs.Keeping.{Opens, Publishes, Closes, Steps, OpenBegins, CloseBegins, StepTakes, settles}
@@ -72,8 +72,8 @@ one_kept (v ∷ vs) h e d =
     absurd (omega (arith, h v.serial (omega (arith, ne)), k)))
     (cases_eq v.serial 0)
 
-no_row : (n p b : ℕ) → ◌≡◌ {A = Option ℕ} (get_or (get_or (replicate n (emptied 0 0)) p (row [] [] 0 0)).building b None) None
-no_row zero p b = refl
+no_row : (n p b : ℕ) → ◌≡◌ {A = Option ℕ} (get_or (get_or (replicate n (emptied 0 0)) p (emptied 0 0)).building b None) None
+no_row zero p b = all_none 8 b
 no_row (suc n) zero b = all_none 8 b
 no_row (suc n) (suc p) b = no_row n p b
 
@@ -101,9 +101,9 @@ held_start {T} leaf ls w f laws =
     let k = make_promises leaf w.heads w.cells ls w.leaves f.heads f.cells f.leaves some (omega (arith, most)) (omega (arith, long, some)) in
     let zero_kept : times_kept 0 m.kept ≡ 1 = omega (arith, i.kept 0 (omega arith)) in
     let root : root_at 0 m.kept ≡ 0 = one_root (version 0 (root_at 0 m.kept)) m.current m.kept (sym r.serial) (laws.once 0) (first_kept 0 m.kept (omega (arith, zero_kept))) laws.current ∙ r.root in
-    let at_first : (p : ℕ) → p < 8 → row_at w p ≡ emptied 0 0 = λ p l. ap (λ (rs : List Row). get_or rs p (row [] [] 0 0)) f.rows ∙ get_or-replicate 8 p (emptied 0 0) (row [] [] 0 0) l in
+    let at_first : (p : ℕ) → p < 8 → row_at w p ≡ emptied 0 0 = λ p l. ap (λ (rs : List Row). get_or rs p (emptied 0 0)) f.rows ∙ get_or-replicate 8 p (emptied 0 0) (emptied 0 0) l in
     let unread : (p a : ℕ) → p < 8 → reading_at w p a ≡ None = λ p a l. ap (λ (x : Row). get_or x.reading a None) (at_first p l) ∙ all_none 8 a in
-    let unbuilt : (p b : ℕ) → building_at w p b ≡ None = λ p b. ap (λ (rs : List Row). get_or (get_or rs p (row [] [] 0 0)).building b None) f.rows ∙ no_row 8 p b in
+    let unbuilt : (p b : ℕ) → building_at w p b ≡ None = λ p b. ap (λ (rs : List Row). get_or (get_or rs p (emptied 0 0)).building b None) f.rows ∙ no_row 8 p b in
     let ns : (d : ℕ) → times d (names w) ≡ times d (0 ∷ []) = λ d.
     let t : total (names_in d) w.rows ≡ 0 = ap (total (names_in d)) f.rows ∙ none_named 8 d in
     omega (arith, names_are w d, t, one_kept m.kept (λ s l. (i.beyond s l).0) zero_kept d, ap (same d) root) in

@@ -12,7 +12,7 @@ use Rattle.cells_theory.specs.Memory.{same}
 use Rattle.cells_theory.specs.Sound.{times}
 use Rattle.cells_theory.proofs.Counting.{same_is}
 use Rattle.exchange_theory.specs.declared.row.Row.{Row}
-use Rattle.exchange_theory.specs.World.{World, row, row_building, row_at, building_at}
+use Rattle.exchange_theory.specs.World.{World, row_building, row_at, building_at, emptied}
 use Rattle.exchange_theory.specs.Story.{at_place}
 use Rattle.exchange_theory.specs.Promises.{cells_in, built_in, names}
 
@@ -50,7 +50,7 @@ names_are w c = omega (arith, times_append c (map (λ (v : Version). v.root) w.k
 
 -- another row for program p
 pub names_row : {T : Type 0} (w : World T) (p : ℕ) (r : Row) → p < length w.rows → (c : ℕ) → total (names_in c) (set w.rows p r) + names_in c (row_at w p) ≡ total (names_in c) w.rows + names_in c r
-names_row w p r l c = total_set (names_in c) w.rows p r (row [] [] 0 0) l
+names_row w p r l c = total_set (names_in c) w.rows p r (emptied 0 0) l
 
 -- another name in building place b of program p
 pub names_place : {T : Type 0} (w : World T) (p b : ℕ) (o : Option ℕ) → p < length w.rows → b < length (row_at w p).building
@@ -124,7 +124,7 @@ few_cells (Some c ∷ os) zero h = let e = h 0 (omega arith) in absurd cc
 few_cells (Some c ∷ os) (suc n) h = omega (arith, few_cells os n (λ i l. h (suc i) (omega arith)))
 
 -- the first n rows have eight building places each, and those after them name nothing
-few_built : (rs : List Row) (n : ℕ) → ((p b : ℕ) → 8 ≤ b → get_or (get_or rs p (row [] [] 0 0)).building b None ≡ None) → ((p b : ℕ) → n ≤ p → get_or (get_or rs p (row [] [] 0 0)).building b None ≡ None)
+few_built : (rs : List Row) (n : ℕ) → ((p b : ℕ) → 8 ≤ b → get_or (get_or rs p (emptied 0 0)).building b None ≡ None) → ((p b : ℕ) → n ≤ p → get_or (get_or rs p (emptied 0 0)).building b None ≡ None)
     → length (built_in rs) ≤ 8 * n
 few_built [] n h v = omega arith
 few_built (r ∷ rs) zero h v =

@@ -1,15 +1,15 @@
 -- The rows of a world after one of them was written.
-use Rattle.std.proofs.Common.{◌≡◌, ℕ, zero, suc, ◌<◌, List, [], length, get_or, set, replicate, None, Option, sym, refl, ap, ◌∙◌, ⊎_elim}
+use Rattle.std.proofs.Common.{◌≡◌, ℕ, zero, suc, ◌<◌, List, length, get_or, set, replicate, None, Option, sym, refl, ap, ◌∙◌, ⊎_elim}
 use Rattle.std.proofs.lemmas.List.{get_or-set_same, get_or-set_other}
 use Rattle.std.proofs.lemmas.Bool.{cases_eq}
 use Rattle.exchange_theory.specs.declared.row.Row.{Row}
-use Rattle.exchange_theory.specs.World.{World, row, row_at, with_row}
+use Rattle.exchange_theory.specs.World.{World, row_at, with_row, emptied}
 
 pub row_same : {T : Type 0} (w : World T) (p : ℕ) (r : Row) → p < length w.rows → row_at (with_row p r w) p ≡ r
-row_same w p r l = get_or-set_same w.rows p r (row [] [] 0 0) l
+row_same w p r l = get_or-set_same w.rows p r (emptied 0 0) l
 
 pub row_other : {T : Type 0} (w : World T) (p : ℕ) (r : Row) (q : ℕ) → (q ≡ p → ⊥) → row_at (with_row p r w) q ≡ row_at w q
-row_other w p r q ne = get_or-set_other w.rows p q r (row [] [] 0 0) ne
+row_other w p r q ne = get_or-set_other w.rows p q r (emptied 0 0) ne
 
 -- a part that the new row has as the old one had it
 pub part_kept : {T A : Type 0} (part : Row → A) (w : World T) (p : ℕ) (r : Row) → p < length w.rows → part r ≡ part (row_at w p) → (q : ℕ) → part (row_at (with_row p r w) q) ≡ part (row_at w q)

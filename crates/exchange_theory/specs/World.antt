@@ -18,7 +18,7 @@ emptied b c = row (replicate 8 None) (replicate 8 None) b c
 
 -- the row of program p; a program that is not there has nothing
 abbrev pub row_in : List Row → ℕ → Row
-row_in rs p = slice_index_or rs p (row [] [] 0 0)
+row_in rs p = slice_index_or rs p (emptied 0 0)
 
 -- a row with o in reading place a, and with o in building place b
 abbrev pub row_reading : ℕ → Option ℕ → Row → Row

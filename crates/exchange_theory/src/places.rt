@@ -13,34 +13,21 @@ pub struct Places {
 }
 
 impl Places {
-    ghost use Rattle.std.specs.Prelude.{◌<◌, slice_set};
+    ghost use Rattle.std.specs.Prelude.{◌<◌};
     ghost use Rattle.exchange_theory.specs.Inside.{within};
     ghost use Rattle.exchange_theory.specs.World.{row_in};
 
-    // The row of a program.
+    // The row of a program; a number that is no program's has a row with no places.
     #[tactic(auto, using(crate::proofs::Insides::row_within, crate::proofs::Insides::row_low))]
     pub fn row(&self, program: u32) -> Row
-        requires { program < 8 }
         ensures value { result ≡ row_in self.now.rows program }
         ensures inside { within self.now.cells result ≡ true }
         ensures low { result.offered < 8 }
     {
-        self.rows[program as usize]
-    }
-
-    // The places with another row for a program.
-    #[tactic(auto, using(crate::proofs::Insides::rows_within))]
-    pub fn with_row(self, program: u32, row: Row) -> Places
-        requires seat { program < 8 }
-        requires inside { within self.cells row ≡ true }
-        ensures size { result.cells ≡ self.cells }
-        ensures rows { result.rows ≡ slice_set self.rows program row }
-    {
-        let mut rows = self.rows;
-        rows[program as usize] = row;
-        Places {
-            cells: self.cells,
-            rows,
+        if program < 8 {
+            self.rows[program as usize]
+        } else {
+            Row::NEW
         }
     }
 }

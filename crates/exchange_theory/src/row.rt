@@ -1,4 +1,4 @@
-ghost use Rattle.std.specs.Prelude.{◌≡◌, ℕ, ◌<◌, true};
+ghost use Rattle.std.specs.Prelude.{◌≡◌, ℕ, true};
 ghost use Rattle.exchange_theory.specs.Inside.{below, within};
 ghost use Rattle.exchange_theory.specs.World.{emptied, row_reading, row_building};
 
@@ -23,28 +23,30 @@ impl Row {
         closing: 0,
     };
 
-    // The row with what one of its reading places is to name: nothing, or a cell. Where its places name cells below a limit, and the
-    // new one does, they still do.
+    // The row with what one of its reading places is to name: nothing, or a cell. There are eight; nothing changes for another number.
+    // Where the places name cells below a limit, and the new one does, they still do.
     #[tactic(auto, using(crate::proofs::Insides::within_reading))]
     pub fn with_reading(self, place: u32, named: Option<u32>) -> Row
-        requires { place < 8 }
         ensures value { result ≡ row_reading place named self }
         ensures inside { (n : ℕ) → within n self ≡ true → below n named ≡ true → within n result ≡ true }
     {
         let mut row = self;
-        row.reading[place as usize] = named;
+        if place < 8 {
+            row.reading[place as usize] = named;
+        }
         row
     }
 
     // The same for one of its building places.
     #[tactic(auto, using(crate::proofs::Insides::within_building))]
     pub fn with_building(self, place: u32, named: Option<u32>) -> Row
-        requires { place < 8 }
         ensures value { result ≡ row_building place named self }
         ensures inside { (n : ℕ) → within n self ≡ true → below n named ≡ true → within n result ≡ true }
     {
         let mut row = self;
-        row.building[place as usize] = named;
+        if place < 8 {
+            row.building[place as usize] = named;
+        }
         row
     }
 
