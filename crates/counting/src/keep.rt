@@ -6,7 +6,7 @@ ghost use Rattle.counting.specs.Moves.{meaning_of};
 ghost use Rattle.counting.specs.Bridge.{good};
 ghost use Rattle.counting.specs.Means.{laws};
 
-use crate::rows::Row;
+use crate::rows::root;
 use crate::state::Counting;
 use keeper::{Declared, Enquiry, Fault, Keeper, Outcome, Refusal, Stage, Version, refused};
 
@@ -45,7 +45,7 @@ impl Enquiry for Counting {
         match self.stages[p].has() {
             Some(serial) => {
                 let i = self.row_of(serial);
-                Ok(self.rows[i].root())
+                Ok(root(self.rows[i]))
             }
             None => Err(refused(Refusal::StageForbids)),
         }

@@ -11,7 +11,7 @@ ghost use Rattle.counting.specs.Model.{state_of, Made};
 ghost use Rattle.counting.specs.Moves.{stage_at, put, place, opening, open_ends, offer_ends, offer_answers, close_ends, close_answers};
 
 use crate::rows;
-use crate::rows::Row;
+use crate::rows::{Row, count, lowered, raised};
 use crate::state::Counting;
 use keeper::{Fault, Outcome, Refusal, Stage, Version, check_limits, refused};
 
@@ -21,11 +21,11 @@ impl Counting {
     {
         check_limits(programs, last)?;
         let current = Version { serial: 0, root: 0 };
-        let mut rows = [Row::Empty; 9];
-        rows[0] = Row::Held {
+        let mut rows = [None; 9];
+        rows[0] = Some(Row {
             version: current,
             users: 0,
-        };
+        });
         Ok(Counting {
             programs,
             last,
@@ -51,7 +51,10 @@ impl Counting {
         ensures value { result ≡ place (state_of self.now) serial }
         ensures bound { result < self.now.programs + 1 }
     {
-        rows::row_of(&self.rows[0..self.programs as usize + 1], serial)
+        match rows::row_of(&self.rows[0..self.programs as usize + 1], serial) {
+            Some(i) => i,
+            None => unreachable(),
+        }
     }
 
     // The first empty row, where there is one.
@@ -60,7 +63,10 @@ impl Counting {
         ensures value { result ≡ first empty (state_of self.now).rows }
         ensures bound { result < self.now.programs + 1 }
     {
-        rows::vacant(&self.rows[0..self.programs as usize + 1])
+        match rows::vacant(&self.rows[0..self.programs as usize + 1]) {
+            Some(i) => i,
+            None => unreachable(),
+        }
     }
 
     // Moves a program to a stage that uses the same serial.
@@ -82,7 +88,7 @@ impl Counting {
         let serial = self.current.serial;
         let i = self.row_of(serial);
         let row = self.rows[i];
-        self.rows[i] = row.raised();
+        self.rows[i] = raised(row);
         self.stages[p] = Stage::Open(serial);
         Outcome::Opened(serial)
     }
@@ -102,7 +108,7 @@ impl Counting {
             root,
         };
         let i = self.vacant();
-        self.rows[i] = Row::Held { version, users: 0 };
+        self.rows[i] = Some(Row { version, users: 0 });
         self.stages[p] = Stage::Offered(over);
         self.current = version;
         Outcome::Accepted(over + 1)
@@ -116,12 +122,12 @@ impl Counting {
     {
         let i = self.row_of(serial);
         let row = self.rows[i];
-        if row.count() == 1 && serial != self.current.serial {
-            self.rows[i] = Row::Empty;
+        if count(row) == 1 && serial != self.current.serial {
+            self.rows[i] = None;
             self.stages[p] = Stage::Idle;
             return Outcome::HandedOut(serial);
         }
-        self.rows[i] = row.lowered();
+        self.rows[i] = lowered(row);
         self.stages[p] = Stage::Idle;
         Outcome::Nothing
     }

@@ -1,6 +1,5 @@
-use Rattle.std.proofs.Common.{◌≡◌, true, false, cond, sym, refl, ap, ◌∙◌}
+use Rattle.std.proofs.Common.{◌≡◌, true, false, cond, sym, refl, ap, ◌∙◌, None}
 use Rattle.keeper.specs.declared.outcome.Outcome.TheVariants.{HandedOut, Nothing}
-use Rattle.counting.specs.declared.rows.Row.TheVariants.{Empty}
 use Rattle.counting.specs.Model.{state_of}
 use Rattle.counting.specs.Moves.{last_one}
 use Rattle.counting.specs.Bridge.{good, fields, view_closed, frees, stays}
@@ -24,7 +23,7 @@ left c = stays c.args.self.now c.args.serial c.row_of-i.result c.row_of-i.ensure
 pub invariant_of-self : goal.invariant_of-self
 invariant_of-self c =
     let k = c.args.self.now in
-    let held = fields _ _ (view_closed k true c.args.serial c.args.p c.row_of-i.result Empty (handed c) c.row_of-i.ensures.value c.row_of-i.ensures.bound refl)
+    let held = fields _ _ (view_closed k true c.args.serial c.args.p c.row_of-i.result None (handed c) c.row_of-i.ensures.value c.row_of-i.ensures.bound refl)
     (close_good (state_of k) (good k) c.args.p c.requires.within c.args.serial c.requires.closes) in
     record { sized = held.0; filled = held.1.0; counted = held.1.1.0 }
 
@@ -33,7 +32,7 @@ returns-then-serial-self c =
     let k = c.args.self.now in
     let l = handed (goal.at.returns-then-serial-self c).Then-serial-self in
     record {
-      after = view_closed k true c.args.serial c.args.p c.row_of-i.result Empty l c.row_of-i.ensures.value c.row_of-i.ensures.bound refl;
+      after = view_closed k true c.args.serial c.args.p c.row_of-i.result None l c.row_of-i.ensures.value c.row_of-i.ensures.bound refl;
       value = sym (ap (λ b. cond b (HandedOut c.args.serial) Nothing) l);
     }
 
