@@ -1,20 +1,21 @@
 -- From the fields of a counting keeper to its state.
 use Rattle.std.specs.Prelude.{◌≡◌, ℕ, zero, suc, ◌+◌, ◌<◌, ◌≤◌, Bool, true, false, cond, ◌∷◌, take, replicate, ◌≢◌, slice_index_or, slice_set, refl}
-use Rattle.std.proofs.Common.{sym, ap, ◌∙◌, subst, arith, add-one, None, Option}
-use Rattle.std.proofs.lemmas.List.{take-replicate, length-replicate}
+use Rattle.std.proofs.Common.{⊎_elim, sym, ap, ◌∙◌, subst, arith, add-one, None, Option}
+use Rattle.std.proofs.lemmas.List.{take-replicate, length-replicate, get_or_past}
+use Rattle.std.proofs.lemmas.Bool.{cases_lt, false≢true}
 use Rattle.std.proofs.lemmas.Bool.Decides.{nat_tests}
 use Rattle.keeper.specs.declared.version.Version.{Version}
 use Rattle.keeper.specs.declared.stage.Stage.{Stage}
-use Rattle.keeper.specs.declared.stage.Stage.TheVariants.{Idle}
+use Rattle.keeper.specs.declared.stage.Stage.TheVariants.{Idle, Opening, Open, Offering, Offered, Closing}
 use Rattle.keeper.specs.Totals.{total}
-use Rattle.keeper.specs.Stages.{uses, engaged}
+use Rattle.keeper.specs.Stages.{uses, engaged, moving}
 use Rattle.keeper.specs.Meaning.{is_serial, version}
 use Rattle.keeper.proofs.Totals.{total_at}
 use Rattle.keeper.proofs.Fronts.{front_set, front_at}
 use Rattle.counting.specs.declared.rows.Row.{Row}
 use Rattle.counting.specs.declared.state.Counting.{Counting}
 use Rattle.counting.specs.State.{State, Sized, Filled, Counted, view, on_row, used_by, steady, taken}
-use Rattle.counting.specs.Moves.{stage_at, row_at, place, put, both, lowered, count, last_one, close_ends, fresh}
+use Rattle.counting.specs.Moves.{opening, stage_at, row_at, place, put, both, lowered, count, last_one, close_ends, fresh}
 use Rattle.counting.specs.Model.{state_of}
 use Rattle.counting.specs.Crowd.{crowd}
 use Rattle.counting.specs.Good.{Good, changed}
@@ -32,6 +33,12 @@ fields v w e g = subst Fields (sym e) (g.sized, (g.filled, (g.counted, tt)))
 module _ (k : Counting) where
   pub stage_here : (p : ℕ) → p < k.programs → stage_at (state_of k) p ≡ slice_index_or k.stages p Idle
   stage_here p h = front_at k.programs k.stages p Idle h
+
+  -- a program with steps left is one of the keeper's
+  pub at_work : (p : ℕ) → moving (stage_at (state_of k) p) ≡ true → p < k.programs
+  at_work p e = ⊎_elim (λ l. l)
+      (λ past. absurd (false≢true (sym (ap moving (get_or_past (state_of k).stages p Idle (omega (arith, past, k.sized)))) ∙ e)))
+      (cases_lt p k.programs)
 
   pub row_here : (i : ℕ) → i < k.programs + 1 → row_at (state_of k) i ≡ slice_index_or k.rows i None
   row_here i h = front_at (k.programs + 1) k.rows i None h
@@ -103,3 +110,11 @@ fresh_good p l few limit = record {
     (λ q. ap (steady 0 l) (get_d_same p q)),
   );
 }
+
+pub opens_moving : (st : Stage) → opening st ≡ true → moving st ≡ true
+opens_moving Idle e = e
+opens_moving (Opening since bound) e = e
+opens_moving (Open s) e = e
+opens_moving (Offering r s) e = absurd (false≢true e)
+opens_moving (Offered s) e = e
+opens_moving (Closing s) e = absurd (false≢true e)

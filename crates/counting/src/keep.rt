@@ -42,13 +42,11 @@ impl Enquiry for Counting {
 
     fn root(&self, program: u32) -> Result<u32, Fault> {
         let p = self.seat(program)?;
-        match self.stages[p].has() {
-            Some(serial) => {
-                let i = self.row_of(serial);
-                Ok(root(self.rows[i]))
-            }
-            None => Err(refused(Refusal::StageForbids)),
-        }
+        let Some(serial) = self.stages[p].has() else {
+            return Err(refused(Refusal::StageForbids));
+        };
+        let i = self.row_of(serial);
+        Ok(root(self.rows[i]))
     }
 }
 

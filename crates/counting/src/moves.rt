@@ -13,7 +13,7 @@ ghost use Rattle.counting.specs.Moves.{stage_at, put, place, opening, open_ends,
 use crate::rows;
 use crate::rows::{Row, count, lowered, raised};
 use crate::state::Counting;
-use keeper::{Fault, Outcome, Refusal, Stage, Version, check_limits, refused};
+use keeper::{Fault, Outcome, Refusal, Stage, Version, check_limits, refused, seated};
 
 impl Counting {
     pub fn new(programs: u32, last: u32) -> Result<Counting, Fault>
@@ -39,10 +39,8 @@ impl Counting {
     pub(crate) fn seat(&self, program: u32) -> Result<usize, Fault>
         ensures { Seated self.now.programs program result }
     {
-        if program >= self.programs {
-            return Err(refused(Refusal::NoProgram));
-        }
-        Ok(program as usize)
+        let p = seated(self.programs, program)?;
+        Ok(p as usize)
     }
 
     // The row of a serial that some row holds.
@@ -80,8 +78,7 @@ impl Counting {
     }
 
     pub(crate) fn end_open(&mut self, p: usize) -> Outcome
-        requires within { p < self.old.programs }
-        requires opens { opening (stage_at (state_of self.old) p) ≡ true }
+        requires { opening (stage_at (state_of self.old) p) ≡ true }
         ensures after { state_of self.new ≡ open_ends (state_of self.old) p }
         ensures value { result ≡ Opened self.old.current.serial }
     {
@@ -94,8 +91,7 @@ impl Counting {
     }
 
     pub(crate) fn end_offer(&mut self, p: usize, root: u32, over: u32) -> Outcome
-        requires within { p < self.old.programs }
-        requires offers { stage_at (state_of self.old) p ≡ Offering root over }
+        requires { stage_at (state_of self.old) p ≡ Offering root over }
         ensures after { state_of self.new ≡ offer_ends (state_of self.old) p root over }
         ensures value { result ≡ offer_answers (state_of self.old) over }
     {
@@ -115,8 +111,7 @@ impl Counting {
     }
 
     pub(crate) fn end_close(&mut self, p: usize, serial: u32) -> Outcome
-        requires within { p < self.old.programs }
-        requires closes { stage_at (state_of self.old) p ≡ Closing serial }
+        requires { stage_at (state_of self.old) p ≡ Closing serial }
         ensures after { state_of self.new ≡ close_ends (state_of self.old) p serial }
         ensures value { result ≡ close_answers (state_of self.old) serial }
     {

@@ -17,18 +17,18 @@ row_of-i-requires c =
     let h : c.in_ok-p.p < c.args.self.now.programs = omega (arith, seat) in
     used_held (state_of k) (good k) p c.in-Some.serial h (has_engaged (stage_at (state_of k) p) _ (ap has (stage_here k p h) ∙ sym c.in-Some.ensures))
 
-pub returns-in-Some : goal.returns-in-Some
-returns-in-Some c =
+pub returns : goal.returns
+returns c =
     let k = c.args.self.now in
     let p = c.in_ok-p.p in
     let seat = c.in_ok-p.ensures in
     subst (λ q. Ok c.root.result ≡ root_answer (meaning_of (state_of k)) q) seat.0
     (root_says k p (omega (arith, seat)) c.in-Some.serial c.row_of-i.result c.root.result c.in-Some.ensures c.row_of-i.ensures.value c.row_of-i.ensures.bound c.root.ensures)
 
-pub returns-in-None : goal.returns-in-None
-returns-in-None c =
+pub returns-in_default : goal.returns-in_default
+returns-in_default c =
     let k = c.args.self.now in
     let p = c.in_ok-p.p in
     let seat = c.in_ok-p.ensures in
     subst (λ q. Err c.refused.result ≡ root_answer (meaning_of (state_of k)) q) seat.0
-    (root_none k p (omega (arith, seat)) c.refused.result c.in-None.ensures c.refused.ensures)
+    (root_none k p (omega (arith, seat)) c.refused.result c.in_default.ensures c.refused.ensures)

@@ -11,21 +11,21 @@ end_open-requires c =
     let k = c.args.self.now in
     let seat = c.in_ok-p.ensures in
     let h : c.in_ok-p.p < c.args.self.now.programs = omega (arith, seat) in
-    record { within = h; opens = ap opening (stage_here k c.in_ok-p.p h ∙ c.in-Opening.is) }
+    ap opening (stage_here k c.in_ok-p.p h ∙ c.in-Opening.is)
 
 pub end_offer-requires : goal.end_offer-requires
 end_offer-requires c =
     let k = c.args.self.now in
     let seat = c.in_ok-p.ensures in
     let h : c.in_ok-p.p < c.args.self.now.programs = omega (arith, seat) in
-    record { within = h; offers = stage_here k c.in_ok-p.p h ∙ c.in-Offering.is }
+    stage_here k c.in_ok-p.p h ∙ c.in-Offering.is
 
 pub end_close-requires : goal.end_close-requires
 end_close-requires c =
     let k = c.args.self.now in
     let seat = c.in_ok-p.ensures in
     let h : c.in_ok-p.p < c.args.self.now.programs = omega (arith, seat) in
-    record { within = h; closes = stage_here k c.in_ok-p.p h ∙ c.in-Closing.is }
+    stage_here k c.in_ok-p.p h ∙ c.in-Closing.is
 
 pub returns-in-Opening : goal.returns-in-Opening
 returns-in-Opening c =
