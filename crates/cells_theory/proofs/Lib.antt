@@ -8,3 +8,4 @@ pub mod Reaching
 pub mod Looking
 pub mod Making
 pub mod Steps
+pub mod Fours
