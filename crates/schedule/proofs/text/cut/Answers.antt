@@ -1,7 +1,6 @@
-use Rattle.std.proofs.Common.{◌≡◌, Some, None, position, ◌==◌, sym, ◌∙◌, rules, tests}
+use Rattle.std.proofs.Common.{◌==◌, sym, ◌∙◌, rules, tests}
 use Rattle.std.proofs.lemmas.Iterator.{YieldsList-from_slice}
 use Rattle.std.proofs.lemmas.Iterator.Search.{position_from_yields_List}
-use Rattle.schedule.specs.Pieces.{Cuts}
 use Rattle.schedule.proofs.Marks.{cut_first, cut_nowhere}
 use Rattle.schedule.proofs.text.cut.Goals as goal
 
