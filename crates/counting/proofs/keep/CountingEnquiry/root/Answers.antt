@@ -1,4 +1,4 @@
-use Rattle.std.proofs.Common.{◌≡◌, ◌<◌, Ok, Err, sym, ap, ◌∙◌, subst, arith}
+use Rattle.std.proofs.Common.{◌≡◌, ◌<◌, Ok, sym, ap, ◌∙◌, subst, arith}
 use Rattle.keeper.specs.Stages.{has}
 use Rattle.keeper.specs.Effects.{root_answer}
 use Rattle.counting.specs.Model.{state_of}
@@ -6,7 +6,7 @@ use Rattle.counting.specs.Moves.{meaning_of, stage_at}
 use Rattle.counting.specs.Bridge.{good, stage_here}
 use Rattle.counting.specs.Means.{has_engaged}
 use Rattle.counting.specs.Steps.{used_held}
-use Rattle.counting.proofs.Calls.{root_says, root_none}
+use Rattle.counting.proofs.Calls.{root_says}
 use Rattle.counting.proofs.keep.CountingEnquiry.root.Goals as goal
 
 pub row_of-i-requires : goal.row_of-i-requires
@@ -24,11 +24,3 @@ returns c =
     let seat = c.in_ok-p.ensures in
     subst (λ q. Ok c.root.result ≡ root_answer (meaning_of (state_of k)) q) seat.0
     (root_says k p (omega (arith, seat)) c.in-Some.serial c.row_of-i.result c.root.result c.in-Some.ensures c.row_of-i.ensures.value c.row_of-i.ensures.bound c.root.ensures)
-
-pub returns-in_default : goal.returns-in_default
-returns-in_default c =
-    let k = c.args.self.now in
-    let p = c.in_ok-p.p in
-    let seat = c.in_ok-p.ensures in
-    subst (λ q. Err c.refused.result ≡ root_answer (meaning_of (state_of k)) q) seat.0
-    (root_none k p (omega (arith, seat)) c.refused.result c.in_default.ensures c.refused.ensures)
