@@ -8,4 +8,3 @@ pub mod Reaching
 pub mod Looking
 pub mod Making
 pub mod Steps
-pub mod Fours

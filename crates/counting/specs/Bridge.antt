@@ -1,7 +1,7 @@
 -- From the fields of a counting keeper to its state.
 use Rattle.std.specs.Prelude.{◌≡◌, ℕ, zero, suc, ◌+◌, ◌<◌, ◌≤◌, Bool, true, false, cond, ◌∷◌, take, replicate, ◌≢◌, slice_index_or, slice_set, refl}
 use Rattle.std.proofs.Common.{⊎_elim, sym, ap, ◌∙◌, subst, arith, add-one, None, Option}
-use Rattle.std.proofs.lemmas.List.{take-replicate, length-replicate, get_or_past}
+use Rattle.std.proofs.lemmas.List.{take-replicate, length-replicate, get_or_past, get_or-take}
 use Rattle.std.proofs.lemmas.Bool.{cases_lt, false≢true}
 use Rattle.std.proofs.lemmas.Bool.Decides.{nat_tests}
 use Rattle.keeper.specs.declared.version.Version.{Version}
@@ -11,7 +11,7 @@ use Rattle.keeper.specs.Totals.{total}
 use Rattle.keeper.specs.Stages.{uses, engaged, moving}
 use Rattle.keeper.specs.Meaning.{is_serial, version}
 use Rattle.keeper.proofs.Totals.{total_at}
-use Rattle.keeper.proofs.Fronts.{front_set, front_at}
+use Rattle.keeper.proofs.Fronts.{front_set}
 use Rattle.counting.specs.declared.rows.Row.{Row}
 use Rattle.counting.specs.declared.state.Counting.{Counting}
 use Rattle.counting.specs.State.{State, Sized, Filled, Counted, view, on_row, used_by, steady, taken}
@@ -32,7 +32,7 @@ fields v w e g = subst Fields (sym e) (g.sized, (g.filled, (g.counted, tt)))
 
 module _ (k : Counting) where
   pub stage_here : (p : ℕ) → p < k.programs → stage_at (state_of k) p ≡ slice_index_or k.stages p Idle
-  stage_here p h = front_at k.programs k.stages p Idle h
+  stage_here p h = get_or-take k.programs k.stages p Idle h
 
   -- a program with steps left is one of the keeper's
   pub at_work : (p : ℕ) → moving (stage_at (state_of k) p) ≡ true → p < k.programs
@@ -41,7 +41,7 @@ module _ (k : Counting) where
       (cases_lt p k.programs)
 
   pub row_here : (i : ℕ) → i < k.programs + 1 → row_at (state_of k) i ≡ slice_index_or k.rows i None
-  row_here i h = front_at (k.programs + 1) k.rows i None h
+  row_here i h = get_or-take (k.programs + 1) k.rows i None h
 
   pub view_put : (p : ℕ) (st : Stage) → view k.programs k.last k.current k.rows (slice_set k.stages p st) ≡ put (state_of k) p st
   view_put p st = simp front_set

@@ -1,6 +1,7 @@
 -- The meaning of a state that holds what always holds: its laws, and what each move does to it.
 use Rattle.std.specs.Prelude.{◌≡◌, ℕ, zero, suc, ◌+◌, ◌<◌, ◌≤◌, Bool, true, false, cond, List, [], ◌∷◌, map, length, get_or, set, Some, None, Option, ◌==◌, ◌≢◌, slice_index_or, slice_set, refl}
 use Rattle.std.proofs.Common.{sym, ap, ◌∙◌, subst, inl, ⊎_elim, arith, length-set, get_or-set_same, get_or-set_other, not}
+use Rattle.std.proofs.lemmas.Option.{none-some}
 use Rattle.std.proofs.lemmas.List.{length-map, get_or_past, map-set}
 use Rattle.std.proofs.lemmas.Bool.{cases_eq, cases_lt, eqb-true, false≢true}
 use Rattle.std.proofs.lemmas.Bool.Decides.{nat_tests}
@@ -61,16 +62,13 @@ paced (Offering r s) = omega arith
 paced (Offered s) = refl
 paced (Closing s) = omega arith
 
-none_some : (s : ℕ) → ◌≡◌ {A = Option ℕ} None (Some s) → ◌≡◌ {A = ℕ} 0 1
-none_some s e = cc
-
 pub has_engaged : (st : Stage) (s : ℕ) → has st ≡ Some s → engaged st ≡ Some s
 has_engaged Idle s e = e
 has_engaged (Opening since bound) s e = e
 has_engaged (Open b) s e = e
 has_engaged (Offering r b) s e = e
 has_engaged (Offered b) s e = e
-has_engaged (Closing b) s e = absurd (omega (arith, none_some s e))
+has_engaged (Closing b) s e = absurd (none-some s e)
 
 -- steps left go with the stage
 left_at_is : (v : State) (p : ℕ) → left_of (meaning_of v) p ≡ pace (stage_at v p)
@@ -90,7 +88,7 @@ laws v g = record {
     had : (p s : ℕ) → has (stage_at v p) ≡ Some s → 0 < total (on_row (is_serial s)) v.rows
     had p s e = ⊎_elim
         (λ (h : p < v.programs). used_held v g p s h (has_engaged (stage_at v p) s e))
-        (λ (h : v.programs ≤ p). absurd (omega (arith, none_some s (sym (ap has (get_or_past v.stages p Idle (omega (arith, g.sized)))) ∙ e))))
+        (λ (h : v.programs ≤ p). absurd (none-some s (sym (ap has (get_or_past v.stages p Idle (omega (arith, g.sized)))) ∙ e)))
         (cases_lt p v.programs)
 
 -- m with other steps left
@@ -201,7 +199,7 @@ module _ (v : State) (g : Good v) (p : ℕ) (within : p < v.programs) where
       -- a program that has s is another one, and the row would count two
       unused : count (row_at v (place v s)) ≡ 1 → (q : ℕ) → has (stage_at v q) ≢ Some s
       unused only q h = ⊎_elim
-          (λ (same : q ≡ p). omega (arith, none_some s (sym (ap (λ k. has (stage_at v k)) same ∙ ap has e) ∙ h)))
+          (λ (same : q ≡ p). absurd (none-some s (sym (ap (λ k. has (stage_at v k)) same ∙ ap has e) ∙ h)))
           (λ (other : q ≡ p → ⊥). ⊎_elim
           (λ (in_range : q < v.programs).
           let rest = set v.stages p Idle in
@@ -217,7 +215,7 @@ module _ (v : State) (g : Good v) (p : ℕ) (within : p < v.programs) where
             total_set (uses s) v.stages p Idle Idle (omega (arith, g.sized)),
             total_at (uses s) rest q Idle (simp length-set (omega (arith, g.sized))),
           ))
-          (λ (far : v.programs ≤ q). omega (arith, none_some s (sym (ap has (get_or_past v.stages q Idle (omega (arith, g.sized)))) ∙ h)))
+          (λ (far : v.programs ≤ q). absurd (none-some s (sym (ap has (get_or_past v.stages q Idle (omega (arith, g.sized)))) ∙ h)))
           (cases_lt q v.programs))
           (cases_eq q p)
 

@@ -7,7 +7,8 @@ use Rattle.std.proofs.lemmas.List.Quantifiers.{position-Some}
 use Rattle.std.proofs.lemmas.List.Sums.{fails_before_first}
 use Rattle.std.proofs.lemmas.Bool.{false≢true, cond-true, cond-false, eq-eqb, ne_eqb, eqb-true}
 use Rattle.schedule.specs.Pieces.{and_then, cut_at, cut_from}
-use Rattle.schedule.proofs.Steps.{after_step, none_some}
+use Rattle.std.proofs.lemmas.Option.{none-some}
+use Rattle.schedule.proofs.Steps.{after_step}
 
 -- past a byte that is not the mark
 pub cut_more : (mark : ℕ) (text : List ℕ) (i : ℕ) → i < length text → (get_or text i 0 ≡ mark → ⊥) → cut_from mark (take i text) (drop i text) ≡ cut_from mark (take (i + 1) text) (drop (i + 1) text)
@@ -50,7 +51,7 @@ cut_nowhere mark text e =
 
 -- the parts with the mark between them are the text
 pub cut_joins : (mark : ℕ) (front text : List ℕ) (p : List ℕ × List ℕ) → cut_from mark front text ≡ Some p → front ++ text ≡ p.0 ++ (mark ∷ p.1)
-cut_joins mark front [] p e = none_some _ p e
+cut_joins mark front [] p e = absurd (none-some p e)
 cut_joins mark front (b ∷ bs) p e = go (eqb b mark) refl (cut_joins mark (front ++ (b ∷ [])) bs p) e
   where
     go : (t : Bool) → eqb b mark ≡ t → (cut_from mark (front ++ (b ∷ [])) bs ≡ Some p → (front ++ (b ∷ [])) ++ bs ≡ p.0 ++ (mark ∷ p.1)) → cond t (Some (front, bs)) (cut_from mark (front ++ (b ∷ [])) bs) ≡ Some p → front ++ (b ∷ bs) ≡ p.0 ++ (mark ∷ p.1)
