@@ -10,13 +10,8 @@ fn follow(cells: &[Cell], f: Field) -> Result<Field, Fault>
     ensures { result ≡ followed cells.now f }
 {
     match f {
-        Field::Cell(d) => {
-            if d as usize >= cells.len() {
-                return Err(DAMAGED);
-            }
-            Ok(f)
-        }
-        Field::Empty | Field::Number(_) => Ok(f),
+        Field::Cell(d) if d as usize >= cells.len() => Err(DAMAGED),
+        _ => Ok(f),
     }
 }
 

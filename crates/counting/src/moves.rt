@@ -49,7 +49,7 @@ impl Counting {
         ensures value { result ≡ place (state_of self.now) serial }
         ensures bound { result < self.now.programs + 1 }
     {
-        match rows::row_of(&self.rows[0..self.programs as usize + 1], serial) {
+        match rows::row_of(&self.rows[..=self.programs as usize], serial) {
             Some(i) => i,
             None => unreachable(),
         }
@@ -61,7 +61,7 @@ impl Counting {
         ensures value { result ≡ first empty (state_of self.now).rows }
         ensures bound { result < self.now.programs + 1 }
     {
-        match rows::vacant(&self.rows[0..self.programs as usize + 1]) {
+        match rows::vacant(&self.rows[..=self.programs as usize]) {
             Some(i) => i,
             None => unreachable(),
         }

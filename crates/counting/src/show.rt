@@ -7,7 +7,7 @@ impl fmt::Display for Counting {
     fn fmt<W: fmt::Write>(&self, f: &mut fmt::Formatter<W>) -> fmt::Result {
         let serial = self.current.serial;
         write!(f, "V {serial}")?;
-        let rows = &self.rows[0..self.programs as usize + 1];
+        let rows = &self.rows[..=self.programs as usize];
         for (i, row) in rows.iter().enumerate() {
             if let Some(row) = row {
                 let version = row.version;
