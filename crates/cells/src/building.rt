@@ -3,9 +3,8 @@ ghost use Rattle.cells_theory.specs.Memory.{memory};
 ghost use Rattle.cells_theory.specs.Build.{fillable, build_answer, build_memory, build_leaves};
 ghost use Rattle.cells_theory.specs.Promises.{BuildCounts, BuildPromises};
 
-use crate::faults::{damaged, no_free_cell};
 use crate::raising::{may_raise_all, raise_four};
-use cells_theory::{Cell, Field, Heads, NO_LINK};
+use cells_theory::{Cell, DAMAGED, Field, Heads, NO_FREE_CELL, NO_LINK};
 use keeper::Fault;
 
 // Whether the number is that of a cell and of a leaf, and every cell that the fields name may be raised.
@@ -30,18 +29,19 @@ fn fill_first<T: Copy>(
 {
     let c = heads.free;
     if c == NO_LINK {
-        return Err(no_free_cell());
+        return Err(NO_FREE_CELL);
     }
     if !may_fill(cells, leaves, c, fields) {
-        return Err(damaged());
+        return Err(DAMAGED);
     }
     let i = c as usize;
     raise_four(cells, fields);
-    let mut x = cells[i];
-    heads.free = x.link;
-    x.count = 1;
-    x.fields = fields;
-    cells[i] = x;
+    heads.free = cells[i].link;
+    cells[i] = Cell {
+        count: 1,
+        fields,
+        ..cells[i]
+    };
     leaves[i] = leaf;
     Ok(c)
 }

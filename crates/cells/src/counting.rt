@@ -11,11 +11,7 @@ use cells_theory::Cell;
 fn read_count(cells: &[Cell], c: u32) -> u32
     ensures { result ≡ count_answer cells.now c }
 {
-    let i = c as usize;
-    if i >= cells.len() {
-        return 0;
-    }
-    cells[i].count
+    cells.get(c as usize).map_or(0, |cell| cell.count)
 }
 
 // The count of cell c, 0 for a number that is no cell's. In a sound memory it is positive where an outside name reaches the cell, and

@@ -10,29 +10,24 @@ fn lower(cells: &mut [Cell], heads: &mut Heads, c: u32)
     ensures { memory heads.new cells.new ≡ let_go c (memory heads.old cells.old) }
 {
     let i = c as usize;
-    if i >= cells.len() {
+    if i >= cells.len() || cells[i].count == 0 {
         return;
     }
-    let mut x = cells[i];
-    let n = x.count;
-    if n == 0 {
-        return;
-    }
-    x.count = n - 1;
-    if n == 1 {
-        x.link = heads.waiting;
+    let mut cell = cells[i];
+    cell.count -= 1;
+    if cell.count == 0 {
+        cell.link = heads.waiting;
         heads.waiting = c;
     }
-    cells[i] = x;
+    cells[i] = cell;
 }
 
 // Lets go of the cell that a field names, if any.
 fn let_go_field(cells: &mut [Cell], heads: &mut Heads, f: Field)
     ensures { memory heads.new cells.new ≡ let_go_field f (memory heads.old cells.old) }
 {
-    match f {
-        Field::Cell(c) => lower(cells, heads, c),
-        Field::Empty | Field::Number(_) => {}
+    if let Field::Cell(c) = f {
+        lower(cells, heads, c);
     }
 }
 
@@ -40,10 +35,9 @@ fn let_go_field(cells: &mut [Cell], heads: &mut Heads, f: Field)
 pub(crate) fn let_go_four(cells: &mut [Cell], heads: &mut Heads, fields: [Field; 4])
     ensures { memory heads.new cells.new ≡ let_go_four fields (memory heads.old cells.old) }
 {
-    let_go_field(cells, heads, fields[0]);
-    let_go_field(cells, heads, fields[1]);
-    let_go_field(cells, heads, fields[2]);
-    let_go_field(cells, heads, fields[3]);
+    for field in fields {
+        let_go_field(cells, heads, field);
+    }
 }
 
 // Lets go of a cell. Where the outside named it, a sound memory stays sound, with one naming less.

@@ -6,8 +6,6 @@
 mod building;
 // Asking for a count.
 mod counting;
-// Refusals that the cells find.
-mod faults;
 // Letting go of a cell.
 mod letting_go;
 // Following a field, and looking at a cell.

@@ -1,9 +1,8 @@
 ghost use Rattle.std.specs.Prelude.{◌≡◌};
-ghost use Rattle.cells_theory.specs.Look.{followed, field_answer, shown_as, Looks};
+ghost use Rattle.cells_theory.specs.Look.{followed, field_answer, shown_as, parts_of, Looks};
 ghost use Rattle.cells_theory.specs.Promises.{FieldPromises, LookPromises};
 
-use crate::faults::damaged;
-use cells_theory::{Cell, Field, Part, Shown};
+use cells_theory::{Cell, DAMAGED, Field, Part, Shown};
 use keeper::Fault;
 
 // A field that is followed: a cell that it names has to be one of the memory's.
@@ -11,13 +10,8 @@ fn follow(cells: &[Cell], f: Field) -> Result<Field, Fault>
     ensures { result ≡ followed cells.now f }
 {
     match f {
-        Field::Cell(d) => {
-            if d as usize >= cells.len() {
-                return Err(damaged());
-            }
-            Ok(f)
-        }
-        Field::Empty | Field::Number(_) => Ok(f),
+        Field::Cell(d) if d as usize >= cells.len() => Err(DAMAGED),
+        _ => Ok(f),
     }
 }
 
@@ -25,14 +19,13 @@ fn follow(cells: &[Cell], f: Field) -> Result<Field, Fault>
 fn read_field(cells: &[Cell], c: u32, k: u32) -> Result<Field, Fault>
     ensures { result ≡ field_answer cells.now c k }
 {
-    let i = c as usize;
-    if i >= cells.len() {
-        return Err(damaged());
+    let Some(cell) = cells.get(c as usize) else {
+        return Err(DAMAGED);
+    };
+    match cell.fields.get(k as usize) {
+        Some(field) => follow(cells, *field),
+        None => Ok(Field::Empty),
     }
-    if k > 3 {
-        return Ok(Field::Empty);
-    }
-    follow(cells, cells[i].fields[k as usize])
 }
 
 // What following field k of cell c gives. In a sound memory a field of a cell is never refused.
@@ -54,24 +47,24 @@ fn part(f: Field) -> Part
     }
 }
 
+// What is shown of four fields.
+fn parts(fields: [Field; 4]) -> [Part; 4]
+    ensures { result ≡ parts_of fields }
+{
+    fields.map(part)
+}
+
 // The leaf and the four fields of cell c.
 fn show<T: Copy>(cells: &[Cell], leaves: &[T], c: u32) -> Result<Shown<T>, Fault>
     ensures { Looks cells.now leaves.now c result }
 {
     let i = c as usize;
-    if i >= cells.len() || i >= leaves.len() {
-        return Err(damaged());
-    }
-    let fields = cells[i].fields;
-    let parts = [
-        part(fields[0]),
-        part(fields[1]),
-        part(fields[2]),
-        part(fields[3]),
-    ];
+    let (Some(cell), Some(leaf)) = (cells.get(i), leaves.get(i)) else {
+        return Err(DAMAGED);
+    };
     Ok(Shown {
-        leaf: leaves[i],
-        parts,
+        leaf: *leaf,
+        parts: parts(cell.fields),
     })
 }
 

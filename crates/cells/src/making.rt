@@ -41,8 +41,8 @@ fn make_cells(cells: &mut [Cell])
     ensures { Fresh cells.new }
 {
     let n = cells.len();
-    for i in 0..n {
-        cells[i] = fresh_cell(n, i);
+    for (i, cell) in cells.iter_mut().enumerate() {
+        *cell = fresh_cell(n, i);
     }
 }
 
@@ -54,7 +54,7 @@ fn prepare<T: Copy>(cells: &mut [Cell], leaves: &mut [T], leaf: T) -> Heads
 {
     let n = cells.len();
     make_cells(cells);
-    if n > 0 && leaves.len() > 0 {
+    if n > 0 && !leaves.is_empty() {
         leaves[0] = leaf;
     }
     Heads {

@@ -9,10 +9,7 @@ fn names(f: Field, c: u32) -> u32
     ensures value { result ≡ name_of c f }
     ensures low { result ≤ 1 }
 {
-    match f {
-        Field::Cell(d) if c == d => 1,
-        _ => 0,
-    }
+    u32::from(f == Field::Cell(c))
 }
 
 // How many of the four fields name cell c.
@@ -20,7 +17,11 @@ fn times(fields: [Field; 4], c: u32) -> u32
     ensures value { result ≡ names_in c fields }
     ensures low { result ≤ 4 }
 {
-    names(fields[0], c) + names(fields[1], c) + names(fields[2], c) + names(fields[3], c)
+    let mut times = 0;
+    for field in fields {
+        times += names(field, c);
+    }
+    times
 }
 
 // Whether the cell that a field names is there, and may be raised once for each of the four fields that names it.
@@ -40,10 +41,12 @@ fn may_raise(cells: &[Cell], fields: [Field; 4], f: Field) -> bool
 pub(crate) fn may_raise_all(cells: &[Cell], fields: [Field; 4]) -> bool
     ensures { result ≡ all_raisable cells.now fields }
 {
-    may_raise(cells, fields, fields[0])
-        && may_raise(cells, fields, fields[1])
-        && may_raise(cells, fields, fields[2])
-        && may_raise(cells, fields, fields[3])
+    for field in fields {
+        if !may_raise(cells, fields, field) {
+            return false;
+        }
+    }
+    true
 }
 
 // Raises the count of a cell. Nothing for a number that is no cell's, or a count that may not be raised.
@@ -51,24 +54,17 @@ fn raise(cells: &mut [Cell], c: u32)
     ensures { cells.new ≡ raised c cells.old }
 {
     let i = c as usize;
-    if i >= cells.len() {
-        return;
+    if i < cells.len() && cells[i].count <= MOST {
+        cells[i].count += 1;
     }
-    let mut x = cells[i];
-    if x.count > MOST {
-        return;
-    }
-    x.count += 1;
-    cells[i] = x;
 }
 
 // Raises the cell that a field names, if any.
 fn raise_field(cells: &mut [Cell], f: Field)
     ensures { cells.new ≡ raise_field f cells.old }
 {
-    match f {
-        Field::Cell(c) => raise(cells, c),
-        Field::Empty | Field::Number(_) => {}
+    if let Field::Cell(c) = f {
+        raise(cells, c);
     }
 }
 
@@ -76,8 +72,7 @@ fn raise_field(cells: &mut [Cell], f: Field)
 pub(crate) fn raise_four(cells: &mut [Cell], fields: [Field; 4])
     ensures { cells.new ≡ raise_four fields cells.old }
 {
-    raise_field(cells, fields[0]);
-    raise_field(cells, fields[1]);
-    raise_field(cells, fields[2]);
-    raise_field(cells, fields[3]);
+    for f in fields {
+        raise_field(cells, f);
+    }
 }

@@ -3,9 +3,8 @@ ghost use Rattle.cells_theory.specs.Memory.{memory};
 ghost use Rattle.cells_theory.specs.Sweep.{sweep_answer, sweep_memory};
 ghost use Rattle.cells_theory.specs.Promises.{SweepPromises};
 
-use crate::faults::damaged;
 use crate::letting_go::let_go_four;
-use cells_theory::{Cell, Field, Heads, NO_LINK};
+use cells_theory::{Cell, DAMAGED, Field, Heads, NO_LINK};
 use keeper::Fault;
 
 // Sweeps the first waiting cell, and answers its number, or none where no cell waits.
@@ -23,15 +22,16 @@ fn free_first<T: Copy>(
     }
     let i = c as usize;
     if i >= cells.len() || i >= leaves.len() {
-        return Err(damaged());
+        return Err(DAMAGED);
     }
     heads.waiting = cells[i].link;
     let fields = cells[i].fields;
     let_go_four(cells, heads, fields);
-    let mut x = cells[i];
-    x.link = heads.free;
-    x.fields = [Field::Empty; 4];
-    cells[i] = x;
+    cells[i] = Cell {
+        link: heads.free,
+        fields: [Field::Empty; 4],
+        ..cells[i]
+    };
     heads.free = c;
     Ok(Some(c))
 }

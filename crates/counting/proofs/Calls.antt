@@ -12,7 +12,6 @@ use Rattle.keeper.specs.Meaning.{Meaning, stage_of}
 use Rattle.keeper.specs.Effects.{answer, stage_answer, root_answer, root_of}
 use Rattle.keeper.proofs.Faults.{in_range, open_meets, publish_meets, publish_last, publish_allowed, close_meets, step_meets}
 use Rattle.keeper.proofs.Exact.{refused_state, refused_answer, done_state, done_answer}
-use Rattle.counting.specs.declared.rows.Row.TheVariants.{Empty}
 use Rattle.counting.specs.declared.state.Counting.{Counting}
 use Rattle.counting.specs.State.{State}
 use Rattle.counting.specs.Moves.{stepped, answered, meaning_of, stage_at, put, place, root_in}
@@ -67,8 +66,8 @@ module _ (k : Counting) (p : ℕ) (within : p < k.programs) where
   root_cond : (r : Result ℕ Fault) → root_of (meaning_of (state_of k)) (has (get_or k.stages p Idle)) ≡ r → root_answer (meaning_of (state_of k)) p ≡ r
   root_cond r e = ap (λ b. cond b (root_of (meaning_of (state_of k)) (has (stage_at (state_of k) p))) (Err (fault NoProgram))) (lt-ltb p k.programs within) ∙ ap (λ st. root_of (meaning_of (state_of k)) (has st)) (stage_here k p within) ∙ e
 
-  pub root_says : (s i r : ℕ) → Some s ≡ has (get_or k.stages p Idle) → i ≡ place (state_of k) s → i < k.programs + 1 → r ≡ root_in (get_or k.rows i Empty) → Ok r ≡ root_answer (meaning_of (state_of k)) p
-  root_says s i r e at h is = sym (root_cond (Ok r) (ap (root_of (meaning_of (state_of k))) (sym e) ∙ ap (λ x. Ok x) (root_at_is s (state_of k).rows ∙ sym (ap (λ j. root_in (get_or (state_of k).rows j Empty)) at) ∙ ap root_in (row_here k i h) ∙ sym is)))
+  pub root_says : (s i r : ℕ) → Some s ≡ has (get_or k.stages p Idle) → i ≡ place (state_of k) s → i < k.programs + 1 → r ≡ root_in (get_or k.rows i None) → Ok r ≡ root_answer (meaning_of (state_of k)) p
+  root_says s i r e at h is = sym (root_cond (Ok r) (ap (root_of (meaning_of (state_of k))) (sym e) ∙ ap (λ x. Ok x) (root_at_is s (state_of k).rows ∙ sym (ap (λ j. root_in (get_or (state_of k).rows j None)) at) ∙ ap root_in (row_here k i h) ∙ sym is)))
 
   pub root_none : (f : Fault) → None ≡ has (get_or k.stages p Idle) → f ≡ fault StageForbids → Err f ≡ root_answer (meaning_of (state_of k)) p
   root_none f e is = sym (root_cond (Err f) (ap (root_of (meaning_of (state_of k))) (sym e) ∙ ap (λ x. Err x) (sym is)))

@@ -8,17 +8,16 @@ use Rattle.keeper.specs.Totals.{total}
 use Rattle.keeper.specs.Stages.{named}
 use Rattle.keeper.specs.Meaning.{is_serial}
 use Rattle.counting.specs.declared.rows.Row.{Row}
-use Rattle.counting.specs.declared.rows.Row.TheVariants.{Empty, Held}
 use Rattle.counting.specs.State.{on_row, used_by, empty}
 use Rattle.counting.specs.Moves.{count}
 
 -- a serial that no row holds is counted nowhere
-pub unheld : (s : ℕ) (rs : List Row) → total (on_row (is_serial s)) rs ≡ 0 → total (used_by s) rs ≡ 0
+pub unheld : (s : ℕ) (rs : List (Option Row)) → total (on_row (is_serial s)) rs ≡ 0 → total (used_by s) rs ≡ 0
 unheld s [] h = refl
-unheld s (Empty ∷ rs) h = omega (arith, unheld s rs (omega arith))
-unheld s (Held v n ∷ rs) h = grind (arith, nat_tests, unheld s rs)
+unheld s (None ∷ rs) h = omega (arith, unheld s rs (omega arith))
+unheld s (Some row ∷ rs) h = grind (arith, nat_tests, unheld s rs)
 
-abbrev pub vacancy : Row → ℕ
+abbrev pub vacancy : Option Row → ℕ
 vacancy r = cond (empty r) 1 0
 
 module _ {A : Type 0} (key : A → Option ℕ) where
@@ -48,43 +47,43 @@ module _ {A : Type 0} (key : A → Option ℕ) where
   apart_total s t ne [] = refl
   apart_total s t ne (x ∷ xs) = grind (arith, nat_tests, apart_total s t ne xs, named_other s t (key x) ne)
 
-  pub crowd : (rs : List Row) (xs : List A) → ((s : ℕ) → total (on_row (is_serial s)) rs ≤ 1) → ((s : ℕ) → total (used_by s) rs ≤ total (by s) xs) → total count rs ≤ length xs
+  pub crowd : (rs : List (Option Row)) (xs : List A) → ((s : ℕ) → total (on_row (is_serial s)) rs ≤ 1) → ((s : ℕ) → total (used_by s) rs ≤ total (by s) xs) → total count rs ≤ length xs
   crowd [] xs once fits = omega arith
-  crowd (Empty ∷ rs) xs once fits = omega (arith, crowd rs xs (λ s. omega (arith, once s)) (λ s. omega (arith, fits s)))
-  crowd (Held v n ∷ rs) xs once fits = omega (arith, apart_length v.serial xs, own, crowd rs (apart v.serial xs) (λ s. omega (arith, once s)) others)
+  crowd (None ∷ rs) xs once fits = omega (arith, crowd rs xs (λ s. omega (arith, once s)) (λ s. omega (arith, fits s)))
+  crowd (Some row ∷ rs) xs once fits = omega (arith, apart_length row.version.serial xs, own, crowd rs (apart row.version.serial xs) (λ s. omega (arith, once s)) others)
     where
-      self : nat_eq v.serial v.serial ≡ true
-      self = eq-eqb v.serial v.serial refl
+      self : nat_eq row.version.serial row.version.serial ≡ true
+      self = eq-eqb row.version.serial row.version.serial refl
 
-      gone : total (on_row (is_serial v.serial)) rs ≡ 0
-      gone = grind (arith, once v.serial, self)
+      gone : total (on_row (is_serial row.version.serial)) rs ≡ 0
+      gone = grind (arith, once row.version.serial, self)
 
-      own : n ≤ total (by v.serial) xs
-      own = grind (arith, fits v.serial, self)
+      own : row.users ≤ total (by row.version.serial) xs
+      own = grind (arith, fits row.version.serial, self)
 
-      others : (s : ℕ) → total (used_by s) rs ≤ total (by s) (apart v.serial xs)
+      others : (s : ℕ) → total (used_by s) rs ≤ total (by s) (apart row.version.serial xs)
       others s = ⊎_elim
-          (λ e. grind (arith, e, unheld v.serial rs gone))
-          (λ ne. omega (arith, fits s, apart_total v.serial s ne xs))
-          (cases_eq s v.serial)
+          (λ e. grind (arith, e, unheld row.version.serial rs gone))
+          (λ ne. omega (arith, fits s, apart_total row.version.serial s ne xs))
+          (cases_eq s row.version.serial)
 
 -- each row is empty or counts some program
-pub rows_fill : (rs : List Row) → ((s : ℕ) → total (on_row (is_serial s)) rs ≤ 1) → ((s : ℕ) → total (on_row (is_serial s)) rs ≤ total (used_by s) rs) → length rs ≤ total count rs + total vacancy rs
+pub rows_fill : (rs : List (Option Row)) → ((s : ℕ) → total (on_row (is_serial s)) rs ≤ 1) → ((s : ℕ) → total (on_row (is_serial s)) rs ≤ total (used_by s) rs) → length rs ≤ total count rs + total vacancy rs
 rows_fill [] once full = omega arith
-rows_fill (Empty ∷ rs) once full = omega (arith, rows_fill rs (λ s. omega (arith, once s)) (λ s. omega (arith, full s)))
-rows_fill (Held v n ∷ rs) once full = omega (arith, own, rows_fill rs (λ s. omega (arith, once s)) others)
+rows_fill (None ∷ rs) once full = omega (arith, rows_fill rs (λ s. omega (arith, once s)) (λ s. omega (arith, full s)))
+rows_fill (Some row ∷ rs) once full = omega (arith, own, rows_fill rs (λ s. omega (arith, once s)) others)
   where
-    self : nat_eq v.serial v.serial ≡ true
-    self = eq-eqb v.serial v.serial refl
+    self : nat_eq row.version.serial row.version.serial ≡ true
+    self = eq-eqb row.version.serial row.version.serial refl
 
-    gone : total (on_row (is_serial v.serial)) rs ≡ 0
-    gone = grind (arith, once v.serial, self)
+    gone : total (on_row (is_serial row.version.serial)) rs ≡ 0
+    gone = grind (arith, once row.version.serial, self)
 
-    own : 1 ≤ n
-    own = grind (arith, full v.serial, self, gone, unheld v.serial rs gone)
+    own : 1 ≤ row.users
+    own = grind (arith, full row.version.serial, self, gone, unheld row.version.serial rs gone)
 
     others : (s : ℕ) → total (on_row (is_serial s)) rs ≤ total (used_by s) rs
     others s = ⊎_elim
         (λ e. grind (arith, e, gone))
-        (λ ne. grind (arith, full s, ne_eqb s v.serial ne))
-        (cases_eq s v.serial)
+        (λ ne. grind (arith, full s, ne_eqb s row.version.serial ne))
+        (cases_eq s row.version.serial)

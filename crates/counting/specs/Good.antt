@@ -1,6 +1,6 @@
 -- Every move of the counting keeper keeps what always holds.
 use Rattle.std.specs.Prelude.{◌≡◌, ℕ, ◌+◌, ◌<◌, ◌≤◌, true, List, length, Some, None, ◌≢◌, slice_index_or, slice_set, refl}
-use Rattle.std.proofs.Common.{sym, subst, ⊎_elim, arith, length-set, get_or-set_same, get_or-set_other}
+use Rattle.std.proofs.Common.{sym, subst, ⊎_elim, arith, length-set, get_or-set_same, get_or-set_other, Option}
 use Rattle.std.proofs.lemmas.Bool.{cases_eq}
 use Rattle.std.proofs.lemmas.Bool.Decides.{nat_tests}
 use Rattle.keeper.specs.declared.version.Version.{Version}
@@ -11,7 +11,6 @@ use Rattle.keeper.specs.Stages.{uses}
 use Rattle.keeper.specs.Meaning.{is_serial, same}
 use Rattle.keeper.proofs.Totals.{total_set}
 use Rattle.counting.specs.declared.rows.Row.{Row}
-use Rattle.counting.specs.declared.rows.Row.TheVariants.{Empty}
 use Rattle.counting.specs.State.{State, Sized, Filled, Counted, on_row, used_by, steady}
 use Rattle.counting.specs.Moves.{stage_at, row_at, put}
 
@@ -21,7 +20,7 @@ pub record Good (v : State) : Type 0 where
   pub counted : Counted v
 
 -- program p at stage st, row i at r, and the current version at c
-abbrev pub changed : State → Version → ℕ → Stage → ℕ → Row → State
+abbrev pub changed : State → Version → ℕ → Stage → ℕ → Option Row → State
 changed v c p st i r = record {
   programs = v.programs;
   last = v.last;
@@ -63,7 +62,7 @@ module _ (v : State) (g : Good v) (p : ℕ) (within : p < v.programs) where
   }
 
   -- a move of a program with a row
-  pub changed_good : (c : Version) (st : Stage) (i : ℕ) (r : Row) → i < length v.rows
+  pub changed_good : (c : Version) (st : Stage) (i : ℕ) (r : Option Row) → i < length v.rows
       → c.serial ≤ v.last → v.current.serial ≤ c.serial
       → steady c.serial v.last st ≡ true
       → 0 < total (on_row (same c)) (slice_set v.rows i r)
@@ -87,7 +86,7 @@ module _ (v : State) (g : Good v) (p : ℕ) (within : p < v.programs) where
   }
     where
       held : (s : ℕ) → total (on_row (is_serial s)) (slice_set v.rows i r) + on_row (is_serial s) (row_at v i) ≡ total (on_row (is_serial s)) v.rows + on_row (is_serial s) r
-      held s = total_set (on_row (is_serial s)) v.rows i r Empty at
+      held s = total_set (on_row (is_serial s)) v.rows i r None at
 
       usage : (s : ℕ) → total (used_by s) (slice_set v.rows i r) + used_by s (row_at v i) ≡ total (used_by s) v.rows + used_by s r
-      usage s = total_set (used_by s) v.rows i r Empty at
+      usage s = total_set (used_by s) v.rows i r None at

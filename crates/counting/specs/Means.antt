@@ -1,6 +1,7 @@
 -- The meaning of a state that holds what always holds: its laws, and what each move does to it.
 use Rattle.std.specs.Prelude.{◌≡◌, ℕ, zero, suc, ◌+◌, ◌<◌, ◌≤◌, Bool, true, false, cond, List, [], ◌∷◌, map, length, get_or, set, Some, None, Option, ◌==◌, ◌≢◌, slice_index_or, slice_set, refl}
-use Rattle.std.proofs.Common.{sym, ap, ◌∙◌, subst, inl, ⊎_elim, arith, length-set, get_or-set_same, get_or-set_other}
+use Rattle.std.proofs.Common.{sym, ap, ◌∙◌, subst, inl, ⊎_elim, arith, length-set, get_or-set_same, get_or-set_other, not}
+use Rattle.std.proofs.lemmas.Option.{none-some}
 use Rattle.std.proofs.lemmas.List.{length-map, get_or_past, map-set}
 use Rattle.std.proofs.lemmas.Bool.{cases_eq, cases_lt, eqb-true, false≢true}
 use Rattle.std.proofs.lemmas.Bool.Decides.{nat_tests}
@@ -14,40 +15,44 @@ use Rattle.keeper.specs.Effects.{Begun, Frame, StepDone}
 use Rattle.keeper.specs.declared.outcome.Outcome.TheVariants.{Opened, Accepted, Stale, Nothing, HandedOut}
 use Rattle.keeper.proofs.Totals.{total_set, total_at, get_d_map}
 use Rattle.counting.specs.declared.rows.Row.{Row}
-use Rattle.counting.specs.declared.rows.Row.TheVariants.{Empty, Held}
-use Rattle.counting.specs.State.{State, on_row, steady, holds, empty, first}
+use Rattle.counting.specs.State.{State, on_row, steady, holds, empty, first, taken}
 use Rattle.counting.specs.Moves.{kept_of, pace, meaning_of, stage_at, row_at, place, put, both, raised, lowered, count, root_in, opening, open_ends, accepts, offer_ends, offer_answers, last_one, close_ends, close_answers}
-use Rattle.counting.specs.Firsts.{first_passes}
+use Rattle.std.proofs.lemmas.List.Sums.{passes_at_first}
 use Rattle.counting.specs.Good.{Good}
 use Rattle.counting.specs.Steps.{current_held, used_held, placed, placed_holds, placed_counts, room, unbound, emptied, closing_held}
 
-pub total_kept : (f : Version → ℕ) (rs : List Row) → total f (kept_of rs) ≡ total (on_row f) rs
+pub total_kept : (f : Version → ℕ) (rs : List (Option Row)) → total f (kept_of rs) ≡ total (on_row f) rs
 total_kept f [] = refl
-total_kept f (Empty ∷ rs) = omega (arith, total_kept f rs)
-total_kept f (Held v n ∷ rs) = omega (arith, total_kept f rs)
+total_kept f (None ∷ rs) = omega (arith, total_kept f rs)
+total_kept f (Some row ∷ rs) = omega (arith, total_kept f rs)
 
-pub root_at_is : (s : ℕ) (rs : List Row) → root_at s (kept_of rs) ≡ root_in (slice_index_or rs (first (holds s) rs) Empty)
+further : (s : ℕ) (r : Option Row) (rs : List (Option Row)) (i : ℕ) → root_at s (kept_of rs) ≡ root_in (slice_index_or rs i None) → root_at s (kept_of rs) ≡ root_in (slice_index_or (r ∷ rs) (1 + i) None)
+further s r rs i ih =
+    let e : suc i ≡ 1 + i = omega arith in
+    subst (λ j. root_at s (kept_of rs) ≡ root_in (slice_index_or (r ∷ rs) j None)) e ih
+
+pub root_at_is : (s : ℕ) (rs : List (Option Row)) → root_at s (kept_of rs) ≡ root_in (slice_index_or rs (first (holds s) rs) None)
 root_at_is s [] = refl
-root_at_is s (Empty ∷ rs) = root_at_is s rs
-root_at_is s (Held v n ∷ rs) = go (s == v.serial) (root_at_is s rs)
+root_at_is s (None ∷ rs) = further s None rs (first (holds s) rs) (root_at_is s rs)
+root_at_is s (Some row ∷ rs) = go (s == row.version.serial) (root_at_is s rs)
   where
-    go : (b : Bool) → root_at s (kept_of rs) ≡ root_in (slice_index_or rs (first (holds s) rs) Empty) → cond b v.root (root_at s (kept_of rs)) ≡ root_in (slice_index_or (Held v n ∷ rs) (cond b 0 (suc (first (holds s) rs))) Empty)
+    go : (b : Bool) → root_at s (kept_of rs) ≡ root_in (slice_index_or rs (first (holds s) rs) None) → cond b row.version.root (root_at s (kept_of rs)) ≡ root_in (slice_index_or (Some row ∷ rs) (cond (not b) (1 + first (holds s) rs) 0) None)
     go true ih = refl
-    go false ih = ih
+    go false ih = further s (Some row) rs (first (holds s) rs) ih
 
-kept_raised : (rs : List Row) (i : ℕ) → kept_of (slice_set rs i (raised (slice_index_or rs i Empty))) ≡ kept_of rs
+kept_raised : (rs : List (Option Row)) (i : ℕ) → kept_of (slice_set rs i (raised (slice_index_or rs i None))) ≡ kept_of rs
 kept_raised [] i = refl
-kept_raised (Empty ∷ rs) zero = refl
-kept_raised (Held v n ∷ rs) zero = refl
-kept_raised (Empty ∷ rs) (suc i) = kept_raised rs i
-kept_raised (Held v n ∷ rs) (suc i) = ap (λ l. v ∷ l) (kept_raised rs i)
+kept_raised (None ∷ rs) zero = refl
+kept_raised (Some row ∷ rs) zero = refl
+kept_raised (None ∷ rs) (suc i) = kept_raised rs i
+kept_raised (Some row ∷ rs) (suc i) = ap (λ l. row.version ∷ l) (kept_raised rs i)
 
-kept_lowered : (rs : List Row) (i : ℕ) → kept_of (slice_set rs i (lowered (slice_index_or rs i Empty))) ≡ kept_of rs
+kept_lowered : (rs : List (Option Row)) (i : ℕ) → kept_of (slice_set rs i (lowered (slice_index_or rs i None))) ≡ kept_of rs
 kept_lowered [] i = refl
-kept_lowered (Empty ∷ rs) zero = refl
-kept_lowered (Held v n ∷ rs) zero = refl
-kept_lowered (Empty ∷ rs) (suc i) = kept_lowered rs i
-kept_lowered (Held v n ∷ rs) (suc i) = ap (λ l. v ∷ l) (kept_lowered rs i)
+kept_lowered (None ∷ rs) zero = refl
+kept_lowered (Some row ∷ rs) zero = refl
+kept_lowered (None ∷ rs) (suc i) = kept_lowered rs i
+kept_lowered (Some row ∷ rs) (suc i) = ap (λ l. row.version ∷ l) (kept_lowered rs i)
 
 paced : (st : Stage) → Paced st (pace st)
 paced Idle = refl
@@ -57,16 +62,13 @@ paced (Offering r s) = omega arith
 paced (Offered s) = refl
 paced (Closing s) = omega arith
 
-none_some : (s : ℕ) → ◌≡◌ {A = Option ℕ} None (Some s) → ◌≡◌ {A = ℕ} 0 1
-none_some s e = cc
-
 pub has_engaged : (st : Stage) (s : ℕ) → has st ≡ Some s → engaged st ≡ Some s
 has_engaged Idle s e = e
 has_engaged (Opening since bound) s e = e
 has_engaged (Open b) s e = e
 has_engaged (Offering r b) s e = e
 has_engaged (Offered b) s e = e
-has_engaged (Closing b) s e = absurd (omega (arith, none_some s e))
+has_engaged (Closing b) s e = absurd (none-some s e)
 
 -- steps left go with the stage
 left_at_is : (v : State) (p : ℕ) → left_of (meaning_of v) p ≡ pace (stage_at v p)
@@ -86,7 +88,7 @@ laws v g = record {
     had : (p s : ℕ) → has (stage_at v p) ≡ Some s → 0 < total (on_row (is_serial s)) v.rows
     had p s e = ⊎_elim
         (λ (h : p < v.programs). used_held v g p s h (has_engaged (stage_at v p) s e))
-        (λ (h : v.programs ≤ p). absurd (omega (arith, none_some s (sym (ap has (get_or_past v.stages p Idle (omega (arith, g.sized)))) ∙ e))))
+        (λ (h : v.programs ≤ p). absurd (none-some s (sym (ap has (get_or_past v.stages p Idle (omega (arith, g.sized)))) ∙ e)))
         (cases_lt p v.programs)
 
 -- m with other steps left
@@ -155,7 +157,7 @@ module _ (v : State) (g : Good v) (p : ℕ) (within : p < v.programs) where
           let same : s ≡ v.current.serial = eqb-true s v.current.serial t in
           let i = first empty v.rows in
           let at = room v g p within (ap engaged e ∙ ap (λ k. Some k) same) in
-          let old : row_at v i ≡ Empty = emptied (row_at v i) (first_passes empty v.rows Empty at) in
+          let old : row_at v i ≡ None = emptied (row_at v i) (passes_at_first empty v.rows None at) in
           let n : Version = version (s + 1) r in (
             frame (accepts v p r s) (Offered s) refl refl refl,
             record {
@@ -165,7 +167,7 @@ module _ (v : State) (g : Good v) (p : ℕ) (within : p < v.programs) where
               current = same;
               serial = refl;
               replaced = refl;
-              added = λ f. omega (arith, total_kept f v.rows, total_kept f (slice_set v.rows i (Held n 0)), total_set (on_row f) v.rows i (Held n 0) Empty at, ap (on_row f) old);
+              added = λ f. omega (arith, total_kept f v.rows, total_kept f (slice_set v.rows i (taken n 0)), total_set (on_row f) v.rows i (taken n 0) None at, ap (on_row f) old);
               is = at_p (Offered s);
             },
           )
@@ -190,14 +192,14 @@ module _ (v : State) (g : Good v) (p : ℕ) (within : p < v.programs) where
       at : place v s < length v.rows
       at = placed v g s there
 
-      there_root : (f : Version → ℕ) (r : Row) → holds s r ≡ true → on_row f r ≡ f (version s (root_in r))
-      there_root f Empty h = absurd (false≢true h)
-      there_root f (Held w n) h = ap (λ k. f (version k w.root)) (sym (eqb-true s w.serial h))
+      there_root : (f : Version → ℕ) (r : Option Row) → holds s r ≡ true → on_row f r ≡ f (version s (root_in r))
+      there_root f None h = absurd (false≢true h)
+      there_root f (Some row) h = ap (λ k. f (version k row.version.root)) (sym (eqb-true s row.version.serial h))
 
       -- a program that has s is another one, and the row would count two
       unused : count (row_at v (place v s)) ≡ 1 → (q : ℕ) → has (stage_at v q) ≢ Some s
       unused only q h = ⊎_elim
-          (λ (same : q ≡ p). omega (arith, none_some s (sym (ap (λ k. has (stage_at v k)) same ∙ ap has e) ∙ h)))
+          (λ (same : q ≡ p). absurd (none-some s (sym (ap (λ k. has (stage_at v k)) same ∙ ap has e) ∙ h)))
           (λ (other : q ≡ p → ⊥). ⊎_elim
           (λ (in_range : q < v.programs).
           let rest = set v.stages p Idle in
@@ -213,13 +215,13 @@ module _ (v : State) (g : Good v) (p : ℕ) (within : p < v.programs) where
             total_set (uses s) v.stages p Idle Idle (omega (arith, g.sized)),
             total_at (uses s) rest q Idle (simp length-set (omega (arith, g.sized))),
           ))
-          (λ (far : v.programs ≤ q). omega (arith, none_some s (sym (ap has (get_or_past v.stages q Idle (omega (arith, g.sized)))) ∙ h)))
+          (λ (far : v.programs ≤ q). absurd (none-some s (sym (ap has (get_or_past v.stages q Idle (omega (arith, g.sized)))) ∙ h)))
           (cases_lt q v.programs))
           (cases_eq q p)
 
-      go : (b : Bool) → last_one v s ≡ b → StepDone (meaning_of v) p (meaning_of (both v p Idle (place v s) (cond b Empty (lowered (row_at v (place v s)))))) (cond b (HandedOut s) Nothing)
+      go : (b : Bool) → last_one v s ≡ b → StepDone (meaning_of v) p (meaning_of (both v p Idle (place v s) (cond b None (lowered (row_at v (place v s)))))) (cond b (HandedOut s) Nothing)
       go true l = (
-        frame (both v p Idle (place v s) Empty) Idle refl refl refl,
+        frame (both v p Idle (place v s) None) Idle refl refl refl,
         record {
           was = e;
           is = at_p Idle;
@@ -230,8 +232,8 @@ module _ (v : State) (g : Good v) (p : ℕ) (within : p < v.programs) where
           removed = λ f. omega (
             arith,
             total_kept f v.rows,
-            total_kept f (slice_set v.rows (place v s) Empty),
-            total_set (on_row f) v.rows (place v s) Empty Empty at,
+            total_kept f (slice_set v.rows (place v s) None),
+            total_set (on_row f) v.rows (place v s) None None at,
             there_root f (row_at v (place v s)) (placed_holds v g s there),
             ap (λ k. f (version s k)) (root_at_is s v.rows),
           );

@@ -1,5 +1,5 @@
 -- What each call does to the counting keeper's state, exactly, and what that state means.
-use Rattle.std.specs.Prelude.{ℕ, ◌+◌, ◌-◌, Bool, true, false, cond, not, ◌&&◌, List, [], ◌∷◌, map, replicate, ◌==◌, slice_index_or, slice_set}
+use Rattle.std.specs.Prelude.{ℕ, ◌+◌, ◌-◌, Bool, true, false, cond, not, ◌&&◌, List, [], ◌∷◌, map, replicate, ◌==◌, slice_index_or, slice_set, Option, None, Some}
 use Rattle.keeper.specs.declared.version.Version.{Version}
 use Rattle.keeper.specs.declared.stage.Stage.{Stage}
 use Rattle.keeper.specs.declared.stage.Stage.TheVariants.{Idle, Opening, Open, Offering, Offered, Closing}
@@ -7,14 +7,13 @@ use Rattle.keeper.specs.declared.outcome.Outcome.{Outcome}
 use Rattle.keeper.specs.declared.outcome.Outcome.TheVariants.{GoesOn, Opened, Accepted, Stale, Nothing, HandedOut}
 use Rattle.keeper.specs.Meaning.{Meaning, version}
 use Rattle.counting.specs.declared.rows.Row.{Row}
-use Rattle.counting.specs.declared.rows.Row.TheVariants.{Empty, Held}
-use Rattle.counting.specs.State.{State, holds, empty, first}
+use Rattle.counting.specs.State.{State, holds, empty, first, taken}
 
 -- the versions that the rows hold
-abbrev pub kept_of : List Row → List Version
+abbrev pub kept_of : List (Option Row) → List Version
 kept_of [] = []
-kept_of (Empty ∷ rs) = kept_of rs
-kept_of (Held v n ∷ rs) = v ∷ kept_of rs
+kept_of (None ∷ rs) = kept_of rs
+kept_of (Some row ∷ rs) = row.version ∷ kept_of rs
 
 -- each operation ends in its first step
 abbrev pub pace : Stage → ℕ
@@ -42,31 +41,31 @@ fresh p l = record {
   programs = p;
   last = l;
   current = version 0 0;
-  rows = Held (version 0 0) 0 ∷ replicate p Empty;
+  rows = taken (version 0 0) 0 ∷ replicate p None;
   stages = replicate p Idle;
 }
 
-abbrev pub count : Row → ℕ
-count Empty = 0
-count (Held v n) = n
+abbrev pub count : Option Row → ℕ
+count None = 0
+count (Some row) = row.users
 
-abbrev pub root_in : Row → ℕ
-root_in Empty = 0
-root_in (Held v n) = v.root
+abbrev pub root_in : Option Row → ℕ
+root_in None = 0
+root_in (Some row) = row.version.root
 
-abbrev pub raised : Row → Row
-raised Empty = Empty
-raised (Held v n) = Held v (n + 1)
+abbrev pub raised : Option Row → Option Row
+raised None = None
+raised (Some row) = taken row.version (row.users + 1)
 
-abbrev pub lowered : Row → Row
-lowered Empty = Empty
-lowered (Held v n) = Held v (n - 1)
+abbrev pub lowered : Option Row → Option Row
+lowered None = None
+lowered (Some row) = taken row.version (row.users - 1)
 
 abbrev pub stage_at : State → ℕ → Stage
 stage_at v p = slice_index_or v.stages p Idle
 
-abbrev pub row_at : State → ℕ → Row
-row_at v i = slice_index_or v.rows i Empty
+abbrev pub row_at : State → ℕ → Option Row
+row_at v i = slice_index_or v.rows i None
 
 abbrev pub put : State → ℕ → Stage → State
 put v p st = record {
@@ -78,7 +77,7 @@ put v p st = record {
 }
 
 -- program p moves to a stage, and row i becomes r
-abbrev pub both : State → ℕ → Stage → ℕ → Row → State
+abbrev pub both : State → ℕ → Stage → ℕ → Option Row → State
 both v p st i r = record {
   programs = v.programs;
   last = v.last;
@@ -109,7 +108,7 @@ accepts v p r s = record {
   programs = v.programs;
   last = v.last;
   current = version (s + 1) r;
-  rows = slice_set v.rows (first empty v.rows) (Held (version (s + 1) r) 0);
+  rows = slice_set v.rows (first empty v.rows) (taken (version (s + 1) r) 0);
   stages = slice_set v.stages p (Offered s);
 }
 
@@ -124,7 +123,7 @@ abbrev pub last_one : State → ℕ → Bool
 last_one v s = count (row_at v (place v s)) == 1 && not (s == v.current.serial)
 
 abbrev pub close_ends : State → ℕ → ℕ → State
-close_ends v p s = let i = place v s in both v p Idle i (cond (last_one v s) Empty (lowered (row_at v i)))
+close_ends v p s = let i = place v s in both v p Idle i (cond (last_one v s) None (lowered (row_at v i)))
 
 abbrev pub close_answers : State → ℕ → Outcome
 close_answers v s = cond (last_one v s) (HandedOut s) Nothing

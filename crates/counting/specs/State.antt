@@ -1,5 +1,6 @@
 -- The state of the counting keeper, and what always holds of it.
-use Rattle.std.specs.Prelude.{◌≡◌, ℕ, suc, ◌+◌, ◌<◌, ◌≤◌, Bool, true, false, cond, List, [], ◌∷◌, length, take, Some, None, ◌==◌, ◌≢◌, nat_le, nat_lt, slice_index_or}
+use Rattle.std.specs.Prelude.{◌≡◌, ℕ, ◌+◌, ◌<◌, ◌≤◌, Bool, true, false, cond, List, length, take, Some, None, ◌==◌, ◌≢◌, nat_le, nat_lt, slice_index_or, Option}
+use Rattle.std.specs.List.{position_or_len}
 use Rattle.keeper.specs.declared.version.Version.{Version}
 use Rattle.keeper.specs.declared.stage.Stage.{Stage}
 use Rattle.keeper.specs.declared.stage.Stage.TheVariants.{Idle, Opening, Open, Offering, Offered, Closing}
@@ -7,30 +8,32 @@ use Rattle.keeper.specs.Totals.{total}
 use Rattle.keeper.specs.Stages.{uses}
 use Rattle.keeper.specs.Meaning.{is_serial, same}
 use Rattle.counting.specs.declared.rows.Row.{Row}
-use Rattle.counting.specs.declared.rows.Row.TheVariants.{Empty, Held}
+
+-- a row that holds v, which so many programs have or are closing
+abbrev pub taken : Version → ℕ → Option Row
+taken v n = Some (record { version = v; users = n })
 
 -- f of the version that a row holds, and 0 of an empty row
-abbrev pub on_row : (Version → ℕ) → Row → ℕ
-on_row f Empty = 0
-on_row f (Held v n) = f v
+abbrev pub on_row : (Version → ℕ) → Option Row → ℕ
+on_row f None = 0
+on_row f (Some row) = f row.version
 
 -- the programs counted in a row that holds serial s
-abbrev pub used_by : ℕ → Row → ℕ
-used_by s Empty = 0
-used_by s (Held v n) = cond (s == v.serial) n 0
+abbrev pub used_by : ℕ → Option Row → ℕ
+used_by s None = 0
+used_by s (Some row) = cond (s == row.version.serial) row.users 0
 
-abbrev pub holds : ℕ → Row → Bool
-holds s Empty = false
-holds s (Held v n) = s == v.serial
+abbrev pub holds : ℕ → Option Row → Bool
+holds s None = false
+holds s (Some row) = s == row.version.serial
 
-abbrev pub empty : Row → Bool
-empty Empty = true
-empty (Held v n) = false
+abbrev pub empty : Option Row → Bool
+empty None = true
+empty (Some row) = false
 
 -- the index of the first element that passes, or the length
 abbrev pub first : {A : Type 0} → (A → Bool) → List A → ℕ
-first t [] = 0
-first t (x ∷ xs) = cond (t x) 0 (suc (first t xs))
+first t xs = position_or_len t xs
 
 -- what a stage says of serials: none is bound, opens began no later than now, offers are over serials below the last
 abbrev pub steady : ℕ → ℕ → Stage → Bool
@@ -46,11 +49,11 @@ pub record State : Type 0 where
   pub programs : ℕ
   pub last : ℕ
   pub current : Version
-  pub rows : List Row
+  pub rows : List (Option Row)
   pub stages : List Stage
 
 -- of fixed arrays the first rows, one more than the programs, and the first stages count
-abbrev pub view : ℕ → ℕ → Version → List Row → List Stage → State
+abbrev pub view : ℕ → ℕ → Version → List (Option Row) → List Stage → State
 view p l c rows stages = record { programs = p; last = l; current = c; rows = take (p + 1) rows; stages = take p stages }
 
 -- What always holds, in three products: antt sees of small products, and not of a record, that they have one proof at most.

@@ -6,7 +6,7 @@ ghost use Rattle.counting.specs.Moves.{meaning_of};
 ghost use Rattle.counting.specs.Bridge.{good};
 ghost use Rattle.counting.specs.Means.{laws};
 
-use crate::rows::Row;
+use crate::rows::root;
 use crate::state::Counting;
 use keeper::{Declared, Enquiry, Fault, Keeper, Outcome, Refusal, Stage, Version, refused};
 
@@ -42,13 +42,11 @@ impl Enquiry for Counting {
 
     fn root(&self, program: u32) -> Result<u32, Fault> {
         let p = self.seat(program)?;
-        match self.stages[p].has() {
-            Some(serial) => {
-                let i = self.row_of(serial);
-                Ok(self.rows[i].root())
-            }
-            None => Err(refused(Refusal::StageForbids)),
-        }
+        let Some(serial) = self.stages[p].has() else {
+            return Err(refused(Refusal::StageForbids));
+        };
+        let i = self.row_of(serial);
+        Ok(root(self.rows[i]))
     }
 }
 

@@ -11,9 +11,9 @@ ghost use Rattle.counting.specs.Model.{state_of, Made};
 ghost use Rattle.counting.specs.Moves.{stage_at, put, place, opening, open_ends, offer_ends, offer_answers, close_ends, close_answers};
 
 use crate::rows;
-use crate::rows::Row;
+use crate::rows::{Row, count, lowered, raised};
 use crate::state::Counting;
-use keeper::{Fault, Outcome, Refusal, Stage, Version, check_limits, refused};
+use keeper::{Fault, Outcome, Refusal, Stage, Version, check_limits, refused, seated};
 
 impl Counting {
     pub fn new(programs: u32, last: u32) -> Result<Counting, Fault>
@@ -21,11 +21,11 @@ impl Counting {
     {
         check_limits(programs, last)?;
         let current = Version { serial: 0, root: 0 };
-        let mut rows = [Row::Empty; 9];
-        rows[0] = Row::Held {
+        let mut rows = [None; 9];
+        rows[0] = Some(Row {
             version: current,
             users: 0,
-        };
+        });
         Ok(Counting {
             programs,
             last,
@@ -39,10 +39,8 @@ impl Counting {
     pub(crate) fn seat(&self, program: u32) -> Result<usize, Fault>
         ensures { Seated self.now.programs program result }
     {
-        if program >= self.programs {
-            return Err(refused(Refusal::NoProgram));
-        }
-        Ok(program as usize)
+        let p = seated(self.programs, program)?;
+        Ok(p as usize)
     }
 
     // The row of a serial that some row holds.
@@ -51,7 +49,10 @@ impl Counting {
         ensures value { result ≡ place (state_of self.now) serial }
         ensures bound { result < self.now.programs + 1 }
     {
-        rows::row_of(&self.rows[0..self.programs as usize + 1], serial)
+        match rows::row_of(&self.rows[..=self.programs as usize], serial) {
+            Some(i) => i,
+            None => unreachable(),
+        }
     }
 
     // The first empty row, where there is one.
@@ -60,7 +61,10 @@ impl Counting {
         ensures value { result ≡ first empty (state_of self.now).rows }
         ensures bound { result < self.now.programs + 1 }
     {
-        rows::vacant(&self.rows[0..self.programs as usize + 1])
+        match rows::vacant(&self.rows[..=self.programs as usize]) {
+            Some(i) => i,
+            None => unreachable(),
+        }
     }
 
     // Moves a program to a stage that uses the same serial.
@@ -74,22 +78,20 @@ impl Counting {
     }
 
     pub(crate) fn end_open(&mut self, p: usize) -> Outcome
-        requires within { p < self.old.programs }
-        requires opens { opening (stage_at (state_of self.old) p) ≡ true }
+        requires { opening (stage_at (state_of self.old) p) ≡ true }
         ensures after { state_of self.new ≡ open_ends (state_of self.old) p }
         ensures value { result ≡ Opened self.old.current.serial }
     {
         let serial = self.current.serial;
         let i = self.row_of(serial);
         let row = self.rows[i];
-        self.rows[i] = row.raised();
+        self.rows[i] = raised(row);
         self.stages[p] = Stage::Open(serial);
         Outcome::Opened(serial)
     }
 
     pub(crate) fn end_offer(&mut self, p: usize, root: u32, over: u32) -> Outcome
-        requires within { p < self.old.programs }
-        requires offers { stage_at (state_of self.old) p ≡ Offering root over }
+        requires { stage_at (state_of self.old) p ≡ Offering root over }
         ensures after { state_of self.new ≡ offer_ends (state_of self.old) p root over }
         ensures value { result ≡ offer_answers (state_of self.old) over }
     {
@@ -102,26 +104,25 @@ impl Counting {
             root,
         };
         let i = self.vacant();
-        self.rows[i] = Row::Held { version, users: 0 };
+        self.rows[i] = Some(Row { version, users: 0 });
         self.stages[p] = Stage::Offered(over);
         self.current = version;
         Outcome::Accepted(over + 1)
     }
 
     pub(crate) fn end_close(&mut self, p: usize, serial: u32) -> Outcome
-        requires within { p < self.old.programs }
-        requires closes { stage_at (state_of self.old) p ≡ Closing serial }
+        requires { stage_at (state_of self.old) p ≡ Closing serial }
         ensures after { state_of self.new ≡ close_ends (state_of self.old) p serial }
         ensures value { result ≡ close_answers (state_of self.old) serial }
     {
         let i = self.row_of(serial);
         let row = self.rows[i];
-        if row.count() == 1 && serial != self.current.serial {
-            self.rows[i] = Row::Empty;
+        if count(row) == 1 && serial != self.current.serial {
+            self.rows[i] = None;
             self.stages[p] = Stage::Idle;
             return Outcome::HandedOut(serial);
         }
-        self.rows[i] = row.lowered();
+        self.rows[i] = lowered(row);
         self.stages[p] = Stage::Idle;
         Outcome::Nothing
     }

@@ -1,4 +1,3 @@
-use crate::rows::Row;
 use crate::state::Counting;
 use keeper::Enquiry;
 use std::fmt;
@@ -8,12 +7,12 @@ impl fmt::Display for Counting {
     fn fmt<W: fmt::Write>(&self, f: &mut fmt::Formatter<W>) -> fmt::Result {
         let serial = self.current.serial;
         write!(f, "V {serial}")?;
-        let rows = &self.rows[0..self.programs as usize + 1];
+        let rows = &self.rows[..=self.programs as usize];
         for (i, row) in rows.iter().enumerate() {
-            if let Row::Held { version, users } = row {
-                let serial = version.serial;
-                let root = version.root;
-                write!(f, " | row {i} {serial} root {root} users {users}")?;
+            if let Some(row) = row {
+                let version = row.version;
+                let users = row.users;
+                write!(f, " | row {i} {version} users {users}")?;
             }
         }
         for program in 0..self.programs {

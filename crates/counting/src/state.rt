@@ -8,7 +8,7 @@ pub struct Counting {
     pub(crate) programs: u32,
     pub(crate) last: u32,
     pub(crate) current: Version,
-    pub(crate) rows: [Row; 9],
+    pub(crate) rows: [Option<Row>; 9],
     pub(crate) stages: [Stage; 8],
     ghost sized: { Sized (view programs last current rows stages) },
     ghost filled: { Filled (view programs last current rows stages) },

@@ -44,8 +44,5 @@ fn perform_or_refuse<K: Screen>(keeper: &mut K, call: Call) -> Result<Answer, Fa
 pub fn perform<K: Screen>(keeper: &mut K, call: Call) -> Answer
     ensures { Performs (K.Screen.labels keeper.old) (K.Enquiry.meaning keeper.old) call (K.Enquiry.meaning keeper.new) result }
 {
-    match perform_or_refuse(keeper, call) {
-        Ok(answer) => answer,
-        Err(fault) => Answer::Refused(fault),
-    }
+    perform_or_refuse(keeper, call).unwrap_or_else(Answer::Refused)
 }

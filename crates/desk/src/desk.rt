@@ -1,10 +1,11 @@
 ghost use Rattle.desk.specs.Performs.{Answers, AnswersLine, Goes, Makes};
-ghost use Rattle.desk.specs.Standing.{standing};
+ghost use Rattle.desk.specs.Standing.{MakesOrRefuses, standing};
 
 use crate::answer::Answer;
 use crate::calls::perform;
 use announcement::Announcing;
 use counting::Counting;
+use keeper::Fault;
 use schedule::{Call, Kind, read};
 use std::fmt;
 
@@ -17,52 +18,53 @@ pub enum Desk {
 }
 
 impl Desk {
-    // Makes a keeper; where that is refused, what was made before stays.
-    fn make(self, kind: Kind, programs: u32, last: u32) -> (Desk, Answer)
-        ensures { Makes kind programs last (standing self) (standing result.0) result.1 }
+    // A desk with a new keeper.
+    fn with_new(kind: Kind, programs: u32, last: u32) -> Result<Desk, Fault>
+        ensures { MakesOrRefuses kind programs last result }
     {
-        match kind {
-            Kind::Announcement => match Announcing::new(programs, last) {
-                Ok(keeper) => (Desk::Announcing(keeper), Answer::Made),
-                Err(fault) => (self, Answer::Refused(fault)),
-            },
-            Kind::Counting => match Counting::new(programs, last) {
-                Ok(keeper) => (Desk::Counting(keeper), Answer::Made),
-                Err(fault) => (self, Answer::Refused(fault)),
-            },
+        Ok(match kind {
+            Kind::Announcement => Desk::Announcing(Announcing::new(programs, last)?),
+            Kind::Counting => Desk::Counting(Counting::new(programs, last)?),
+        })
+    }
+
+    // Makes a keeper; where that is refused, what was made before stays.
+    fn make(&mut self, kind: Kind, programs: u32, last: u32) -> Answer
+        ensures { Makes kind programs last (standing self.old) (standing self.new) result }
+    {
+        match Desk::with_new(kind, programs, last) {
+            Ok(desk) => {
+                *self = desk;
+                Answer::Made
+            }
+            Err(fault) => Answer::Refused(fault),
         }
     }
 
     // Carries out a call on what was made last.
-    fn go(self, call: Call) -> (Desk, Answer)
-        ensures { Goes (standing self) call (standing result.0) result.1 }
+    fn go(&mut self, call: Call) -> Answer
+        ensures { Goes (standing self.old) call (standing self.new) result }
     {
         match self {
-            Desk::Nothing => (Desk::Nothing, Answer::Unreadable),
-            Desk::Announcing(mut keeper) => {
-                let answer = perform(&mut keeper, call);
-                (Desk::Announcing(keeper), answer)
-            }
-            Desk::Counting(mut keeper) => {
-                let answer = perform(&mut keeper, call);
-                (Desk::Counting(keeper), answer)
-            }
+            Desk::Nothing => Answer::Unreadable,
+            Desk::Announcing(keeper) => perform(keeper, call),
+            Desk::Counting(keeper) => perform(keeper, call),
         }
     }
 
     // Carries out the call that a line is written as, if it is one.
-    pub fn answer_line(self, line: &[u8]) -> (Desk, Answer)
-        ensures { AnswersLine (standing self) line.now (standing result.0) result.1 }
+    pub fn answer_line(&mut self, line: &[u8]) -> Answer
+        ensures { AnswersLine (standing self.old) line.now (standing self.new) result }
     {
         match read(line) {
             Some(call) => self.answer(call),
-            None => (self, Answer::Unreadable),
+            None => Answer::Unreadable,
         }
     }
 
     // Carries out a call: what stands on the desk then, and the answer.
-    pub fn answer(self, call: Call) -> (Desk, Answer)
-        ensures { Answers (standing self) call (standing result.0) result.1 }
+    pub fn answer(&mut self, call: Call) -> Answer
+        ensures { Answers (standing self.old) call (standing self.new) result }
     {
         match call {
             Call::Keeper {

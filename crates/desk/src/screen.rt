@@ -33,11 +33,10 @@ impl Screen for Announcing {
     ghost placed = { λ k p. Labels.placed (state_in k) p };
 
     fn stands_at(&self, program: u32) -> Option<Label> {
-        match self.label(program) {
-            Ok(Some(label)) => Some(Label::Announcement(label)),
-            Ok(None) => None,
-            Err(_) => None,
-        }
+        let Ok(label) = self.label(program) else {
+            return None;
+        };
+        label.map(Label::Announcement)
     }
 }
 
@@ -47,10 +46,9 @@ impl Screen for Counting {
     ghost placed = { Prim.search rules };
 
     fn stands_at(&self, program: u32) -> Option<Label> {
-        match self.label(program) {
-            Ok(Some(label)) => Some(Label::Counting(label)),
-            Ok(None) => None,
-            Err(_) => None,
-        }
+        let Ok(label) = self.label(program) else {
+            return None;
+        };
+        label.map(Label::Counting)
     }
 }

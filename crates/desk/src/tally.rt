@@ -30,19 +30,17 @@ impl Tally {
     {
         match answer {
             Answer::Unreadable => Tally {
-                calls: self.calls,
-                refused: self.refused,
                 unreadable: self.unreadable.saturating_add(1),
+                ..self
             },
             Answer::Refused(_) => Tally {
                 calls: self.calls.saturating_add(1),
                 refused: self.refused.saturating_add(1),
-                unreadable: self.unreadable,
+                ..self
             },
             _ => Tally {
                 calls: self.calls.saturating_add(1),
-                refused: self.refused,
-                unreadable: self.unreadable,
+                ..self
             },
         }
     }
@@ -50,9 +48,11 @@ impl Tally {
 
 impl fmt::Display for Tally {
     fn fmt<W: fmt::Write>(&self, f: &mut fmt::Formatter<W>) -> fmt::Result {
-        let calls = self.calls;
-        let refused = self.refused;
-        let unreadable = self.unreadable;
+        let Tally {
+            calls,
+            refused,
+            unreadable,
+        } = *self;
         write!(
             f,
             "{calls} calls, {refused} refused, {unreadable} unreadable"

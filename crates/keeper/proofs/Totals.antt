@@ -1,5 +1,5 @@
 -- Sums over a list under a change at one place.
-use Rattle.std.proofs.Common.{◌≡◌, ℕ, zero, suc, ◌+◌, ◌<◌, ◌≤◌, List, [], ◌∷◌, map, length, get_or, set, refl, ap, arith}
+use Rattle.std.proofs.Common.{◌≡◌, ℕ, zero, suc, ◌+◌, ◌<◌, ◌≤◌, List, [], ◌∷◌, map, length, get_or, set, refl, arith}
 use Rattle.keeper.specs.Totals.{total}
 
 pub total_set : {A : Type 0} (f : A → ℕ) (xs : List A) (i : ℕ) (y d : A) → i < length xs → total f (set xs i y) + f (get_or xs i d) ≡ total f xs + f y
@@ -16,8 +16,3 @@ pub get_d_map : {A B : Type 0} (f : A → B) (xs : List A) (i : ℕ) (d : A) →
 get_d_map f [] i d = refl
 get_d_map f (x ∷ xs) zero d = refl
 get_d_map f (x ∷ xs) (suc i) d = get_d_map f xs i d
-
-pub map-set : {A B : Type 0} (f : A → B) (xs : List A) (i : ℕ) (y : A) → map f (set xs i y) ≡ set (map f xs) i (f y)
-map-set f [] i y = refl
-map-set f (x ∷ xs) zero y = refl
-map-set f (x ∷ xs) (suc i) y = ap (λ l. f x ∷ l) (map-set f xs i y)

@@ -21,10 +21,8 @@ impl Action {
         ensures { result ≡ actor self }
     {
         match self {
-            Action::Open(program) => program,
+            Action::Open(program) | Action::Close(program) | Action::Step(program) => program,
             Action::Publish { program, .. } => program,
-            Action::Close(program) => program,
-            Action::Step(program) => program,
         }
     }
 }
@@ -71,9 +69,8 @@ fn perform_others<K: Keeper>(keeper: &mut K, program: u32, calls: &[Action])
 fn perform_turn<K: Keeper>(keeper: &mut K, program: u32, others: &[&[Action]], turn: u32)
     ensures { MadeByOthers program (others_of program (slice_index_or (calls_in others.now) turn []) []) (K.Enquiry.meaning keeper.old) (K.Enquiry.meaning keeper.new) }
 {
-    let at = turn as usize;
-    if at < others.len() {
-        perform_others(keeper, program, others[at]);
+    if let Some(calls) = others.get(turn as usize) {
+        perform_others(keeper, program, calls);
     }
 }
 

@@ -1,5 +1,7 @@
 ghost use Rattle.std.specs.Prelude.{◌≡◌};
-ghost use Rattle.keeper.specs.Refusals.{number_of, fault, MayMake};
+ghost use Rattle.keeper.specs.Refusals.{number_of, fault, fault_by};
+
+use std::fmt;
 
 // Why a call is turned down, by its number.
 #[derive(Clone, Copy, PartialEq, Eq, Debug)]
@@ -43,6 +45,28 @@ pub enum Layer {
     Exchange,
 }
 
+impl Layer {
+    // A refusal that this layer finds.
+    pub fn refuses(self, refusal: Refusal) -> Fault
+        ensures { result ≡ fault_by self refusal }
+    {
+        Fault {
+            refusal,
+            layer: self,
+        }
+    }
+}
+
+impl fmt::Display for Layer {
+    fn fmt<W: fmt::Write>(&self, f: &mut fmt::Formatter<W>) -> fmt::Result {
+        f.write_str(match self {
+            Layer::Cells => "cells",
+            Layer::Keeper => "keeper",
+            Layer::Exchange => "exchange",
+        })
+    }
+}
+
 // A refusal with the layer that found it.
 #[derive(Clone, Copy, PartialEq, Eq, Debug)]
 pub struct Fault {
@@ -50,22 +74,17 @@ pub struct Fault {
     pub layer: Layer,
 }
 
+impl fmt::Display for Fault {
+    fn fmt<W: fmt::Write>(&self, f: &mut fmt::Formatter<W>) -> fmt::Result {
+        let number = self.refusal.number();
+        let layer = self.layer;
+        write!(f, "refused {number} {layer}")
+    }
+}
+
 // A refusal that a keeper finds itself.
 pub fn refused(refusal: Refusal) -> Fault
     ensures { result ≡ fault refusal }
 {
-    Fault {
-        refusal,
-        layer: Layer::Keeper,
-    }
-}
-
-// Whether a keeper can be made for so many programs with that last serial.
-pub fn check_limits(programs: u32, last: u32) -> Result<(), Fault>
-    ensures { MayMake programs last result }
-{
-    if programs < 1 || programs > 8 || last < 1 || last > 4_000_000_000 {
-        return Err(refused(Refusal::Limits));
-    }
-    Ok(())
+    Layer::Keeper.refuses(refusal)
 }

@@ -5,6 +5,8 @@
 mod client;
 // Why a call is turned down, and the layer that found it.
 mod fault;
+// What a keeper asks of the numbers that it is made for and called with.
+mod limits;
 // What a step came to.
 mod outcome;
 // What a program is doing.
@@ -15,7 +17,8 @@ mod traits;
 mod version;
 
 pub use client::{Action, Opened, open_among};
-pub use fault::{Fault, Layer, Refusal, check_limits, refused};
+pub use fault::{Fault, Layer, Refusal, refused};
+pub use limits::{MOST_PROGRAMS, MOST_SERIALS, check_limits, seated, within_limits};
 pub use outcome::Outcome;
 pub use stage::Stage;
 pub use traits::{Enquiry, Keeper};

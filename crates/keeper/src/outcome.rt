@@ -1,3 +1,5 @@
+use std::fmt;
+
 // What a step came to, with the serial opened, accepted or handed out.
 #[derive(Clone, Copy, PartialEq, Eq, Debug)]
 pub enum Outcome {
@@ -13,4 +15,17 @@ pub enum Outcome {
     Nothing,
     // A close ended, and the version with this serial is kept no longer.
     HandedOut(u32),
+}
+
+impl fmt::Display for Outcome {
+    fn fmt<W: fmt::Write>(&self, f: &mut fmt::Formatter<W>) -> fmt::Result {
+        match *self {
+            Outcome::GoesOn => write!(f, "goes on"),
+            Outcome::Opened(serial) => write!(f, "opened {serial}"),
+            Outcome::Accepted(serial) => write!(f, "accepted {serial}"),
+            Outcome::Stale => write!(f, "stale"),
+            Outcome::Nothing => write!(f, "nothing"),
+            Outcome::HandedOut(serial) => write!(f, "handed out {serial}"),
+        }
+    }
 }

@@ -3,6 +3,7 @@ ghost use Rattle.keeper.specs.Stages.{has, idle};
 ghost use Rattle.keeper.specs.Refusals.{MayOpen, MayPublish, MayClose, MayStep};
 
 use crate::fault::{Fault, Refusal, refused};
+use std::fmt;
 
 // What a program is doing.
 #[derive(Clone, Copy, PartialEq, Eq, Debug)]
@@ -35,10 +36,7 @@ impl Stage {
     pub fn is_idle(self) -> bool
         ensures { result ≡ idle self }
     {
-        match self {
-            Stage::Idle => true,
-            _ => false,
-        }
+        matches!(self, Stage::Idle)
     }
 
     // Refuses where the stage forbids an open.
@@ -78,6 +76,23 @@ impl Stage {
         match self {
             Stage::Opening { .. } | Stage::Offering { .. } | Stage::Closing(_) => Ok(()),
             _ => Err(refused(Refusal::StageForbids)),
+        }
+    }
+}
+
+impl fmt::Display for Stage {
+    fn fmt<W: fmt::Write>(&self, f: &mut fmt::Formatter<W>) -> fmt::Result {
+        match *self {
+            Stage::Idle => write!(f, "idle"),
+            Stage::Opening { since, bound: None } => write!(f, "opening since {since}"),
+            Stage::Opening {
+                since,
+                bound: Some(serial),
+            } => write!(f, "opening since {since} bound {serial}"),
+            Stage::Open(serial) => write!(f, "open {serial}"),
+            Stage::Offering { root, over } => write!(f, "offering {root} over {over}"),
+            Stage::Offered(over) => write!(f, "offered {over}"),
+            Stage::Closing(serial) => write!(f, "closing {serial}"),
         }
     }
 }

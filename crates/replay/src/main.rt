@@ -13,13 +13,13 @@ fn main(rt: HostRuntime) -> anyhow::Result<()> {
 fn run(rt: &HostRuntime) -> anyhow::Result<()> {
     let mut args = env::args(rt)?;
     let _name = args.next();
-    let mut named = false;
-    for path in args {
-        named = true;
-        play(rt, path.as_str())?;
-    }
-    if !named {
+    let Some(first) = args.next() else {
         play(rt, "-")?;
+        return Ok(());
+    };
+    play(rt, first.as_str())?;
+    for path in args {
+        play(rt, path.as_str())?;
     }
     Ok(())
 }
@@ -47,8 +47,7 @@ fn replay<R: BufRead + Drop>(rt: &HostRuntime, mut input: R) -> io::Result<()> {
         if is_skipped(text) {
             continue;
         }
-        let (next, answer) = desk.answer_line(text);
-        desk = next;
+        let answer = desk.answer_line(text);
         tally = tally.with(answer);
         write_answer(&mut out, text, answer, &desk)?;
     }

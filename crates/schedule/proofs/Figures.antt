@@ -10,7 +10,8 @@ use Rattle.std.proofs.lemmas.Bool.Decides.{nat_tests}
 use Rattle.schedule.specs.Lines.{Numbered}
 use Rattle.schedule.specs.Pieces.{and_then, lead_in, longer, number_in, plain, with_digit, with_digits}
 use Rattle.schedule.proofs.Marks.{after_cut, cut_apart}
-use Rattle.schedule.proofs.Steps.{after_step, none_some}
+use Rattle.std.proofs.lemmas.Option.{none-some}
+use Rattle.schedule.proofs.Steps.{after_step}
 
 -- one digit on
 pub digits_more : (most n : ℕ) (text : List ℕ) (i : ℕ) (r : Option ℕ) → i < length text → r ≡ with_digit most n (get_or text i 0) → with_digits most n (drop i text) ≡ and_then r (λ m. with_digits most m (drop (i + 1) text))
@@ -46,8 +47,8 @@ counts most n [] m h e = let s : n ≡ m = cc in record { digits = refl; value =
 counts most n (b ∷ bs) m h e = go (is_ascii_digit b) (leb (longer n b) most) refl refl (λ k. counts most (longer n b) bs m k) e
   where
     go : (d f : Bool) → is_ascii_digit b ≡ d → leb (longer n b) most ≡ f → (longer n b ≤ most → with_digits most (longer n b) bs ≡ Some m → Counts most (longer n b) bs m) → and_then (cond d (cond f (Some (longer n b)) None) None) (λ k. with_digits most k bs) ≡ Some m → Counts most n (b ∷ bs) m
-    go false f isd isf on e = none_some _ m e
-    go true false isd isf on e = none_some _ m e
+    go false f isd isf on e = absurd (none-some m e)
+    go true false isd isf on e = absurd (none-some m e)
     go true true isd isf on e =
         let r = on (leb-true _ _ isf) e in
         record { digits = and_from _ _ isd r.digits; value = r.value; few = r.few }
@@ -93,7 +94,7 @@ pub number_form : (most n : ℕ) (text : List ℕ) → most < 2 ^ 64 → number_
 number_form most n text wide e = go (plain text) refl e
   where
     go : (p : Bool) → plain text ≡ p → cond p (with_digits most 0 text) None ≡ Some n → (text ≡ decimal n) × (n ≤ most)
-    go false is e = none_some _ n e
+    go false is e = absurd (none-some n e)
     go true is e =
         let r = counts most 0 text n (omega arith) e in
         let d : decimal (value_on 0 text) ≡ text = decimal-digits_value own text r.digits (plain_some text is) (plain_first text is) (omega (arith, r.value, r.few)) in
@@ -103,7 +104,7 @@ number_form most n text wide e = go (plain text) refl e
 pub numbered : (most : ℕ) (text : List ℕ) (r : Option ℕ) → most < 2 ^ 64 → r ≡ number_in most text → Numbered most text r
 numbered most text (Some n) wide e = number_form most n text wide (sym e)
 numbered most text None wide e = λ n few is.
-    none_some _ n (e ∙ ap (number_in most) is ∙ number_back most n wide few)
+    absurd (none-some n (e ∙ ap (number_in most) is ∙ number_back most n wide few))
 
 -- what is read after a number
 pub after_number : {A : Type 0} (most : ℕ) (text : List ℕ) (f : ℕ → Option A) (b : A) (Goal : Type 0) → most < 2 ^ 64 → and_then (number_in most text) f ≡ Some b → ((n : ℕ) → text ≡ decimal n → f n ≡ Some b → Goal) → Goal

@@ -13,7 +13,8 @@ use Rattle.schedule.specs.Pieces.{and_then, cut_at}
 use Rattle.schedule.specs.Words.{bare_of, call_of, call_split, called_of, keeper_of, kind_of, publish_of, wide, wide_lead, word_of}
 use Rattle.schedule.proofs.Figures.{after_lead, after_number, lead_back, number_back}
 use Rattle.schedule.proofs.Marks.{after_cut, cut_joins}
-use Rattle.schedule.proofs.Steps.{after_step, none_some}
+use Rattle.std.proofs.lemmas.Option.{none-some}
+use Rattle.schedule.proofs.Steps.{after_step}
 
 -- the pieces at 32 bits and a blank
 wide_back : (n : ℕ) → n < 2 ^ 32 → wide (decimal n) ≡ Some n
@@ -67,10 +68,10 @@ word_form : (text : List ℕ) (w : Word) → word_of text ≡ Some w → text �
 word_form text w =
     picks spelled text word.Keeper w _ (picks spelled text word.Open w _ (picks spelled text word.Publish w _ (picks spelled text word.Step w _
     (picks spelled text word.Close w _ (picks spelled text word.Root w _ (picks spelled text word.Stage w _ (picks spelled text word.Current w _
-    (picks spelled text word.Declared w _ (picks spelled text word.Show w None (λ e. none_some _ _ e))))))))))
+    (picks spelled text word.Declared w _ (picks spelled text word.Show w None (λ e. absurd (none-some _ e)))))))))))
 
 kind_form : (text : List ℕ) (k : Kind) → kind_of text ≡ Some k → text ≡ named k
-kind_form text k = picks named text Announcement k _ (picks named text Counting k None (λ e. none_some _ _ e))
+kind_form text k = picks named text Announcement k _ (picks named text Counting k None (λ e. absurd (none-some _ e)))
 
 -- a call with one number
 one_form : (make : ℕ → Call) (front rest : List ℕ) (c : Call) → ((n : ℕ) → written (make n) ≡ front ++ decimal n) → and_then (wide rest) (λ n. Some (make n)) ≡ Some c → front ++ rest ≡ written c
@@ -104,18 +105,18 @@ called_form word.Step rest c e = one_form call.Step (codes "step ") rest c (λ n
 called_form word.Close rest c e = one_form call.Close (codes "close ") rest c (λ n. refl) e
 called_form word.Root rest c e = one_form call.Root (codes "root ") rest c (λ n. refl) e
 called_form word.Stage rest c e = one_form call.Stage (codes "stage ") rest c (λ n. refl) e
-called_form word.Current rest c e = none_some _ c e
-called_form word.Declared rest c e = none_some _ c e
-called_form word.Show rest c e = none_some _ c e
+called_form word.Current rest c e = absurd (none-some c e)
+called_form word.Declared rest c e = absurd (none-some c e)
+called_form word.Show rest c e = absurd (none-some c e)
 
 bare_form : (w : Word) (c : Call) → bare_of w ≡ Some c → spelled w ≡ written c
-bare_form word.Keeper c e = none_some _ c e
-bare_form word.Open c e = none_some _ c e
-bare_form word.Publish c e = none_some _ c e
-bare_form word.Step c e = none_some _ c e
-bare_form word.Close c e = none_some _ c e
-bare_form word.Root c e = none_some _ c e
-bare_form word.Stage c e = none_some _ c e
+bare_form word.Keeper c e = absurd (none-some c e)
+bare_form word.Open c e = absurd (none-some c e)
+bare_form word.Publish c e = absurd (none-some c e)
+bare_form word.Step c e = absurd (none-some c e)
+bare_form word.Close c e = absurd (none-some c e)
+bare_form word.Root c e = absurd (none-some c e)
+bare_form word.Stage c e = absurd (none-some c e)
 bare_form word.Current c e = let s : call.Current ≡ c = cc in ap written s
 bare_form word.Declared c e = let s : call.Declared ≡ c = cc in ap written s
 bare_form word.Show c e = let s : call.Show ≡ c = cc in ap written s
@@ -134,4 +135,4 @@ form line c e = go (cut_at 32 line) refl e
 pub reads : (line : List ℕ) (r : Option Call) → r ≡ call_of line → Reads line r
 reads line (Some c) e = form line c (sym e)
 reads line None e = λ c fit is.
-    none_some _ c (e ∙ ap call_of is ∙ back c fit)
+    none-some c (e ∙ ap call_of is ∙ back c fit)

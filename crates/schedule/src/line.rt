@@ -3,7 +3,7 @@ ghost use Rattle.schedule.specs.Lines.{Reads};
 ghost use Rattle.schedule.specs.Words.{bare_of, call_of, called_of, keeper_of, kind_of, publish_of, word_of};
 
 use crate::call::{Call, Kind};
-use crate::text::{cut, figures, leading_figures, same};
+use crate::text::{cut, figures, leading_figures};
 
 // The words that a line can begin with.
 #[derive(Clone, Copy)]
@@ -24,28 +24,18 @@ enum Word {
 fn word_in(text: &[u8]) -> Option<Word>
     ensures { result ≡ word_of text.now }
 {
-    if same(text, b"keeper") {
-        Some(Word::Keeper)
-    } else if same(text, b"open") {
-        Some(Word::Open)
-    } else if same(text, b"publish") {
-        Some(Word::Publish)
-    } else if same(text, b"step") {
-        Some(Word::Step)
-    } else if same(text, b"close") {
-        Some(Word::Close)
-    } else if same(text, b"root") {
-        Some(Word::Root)
-    } else if same(text, b"stage") {
-        Some(Word::Stage)
-    } else if same(text, b"current") {
-        Some(Word::Current)
-    } else if same(text, b"declared") {
-        Some(Word::Declared)
-    } else if same(text, b"show") {
-        Some(Word::Show)
-    } else {
-        None
+    match text {
+        b"keeper" => Some(Word::Keeper),
+        b"open" => Some(Word::Open),
+        b"publish" => Some(Word::Publish),
+        b"step" => Some(Word::Step),
+        b"close" => Some(Word::Close),
+        b"root" => Some(Word::Root),
+        b"stage" => Some(Word::Stage),
+        b"current" => Some(Word::Current),
+        b"declared" => Some(Word::Declared),
+        b"show" => Some(Word::Show),
+        _ => None,
     }
 }
 
@@ -53,12 +43,10 @@ fn word_in(text: &[u8]) -> Option<Word>
 fn kind_in(text: &[u8]) -> Option<Kind>
     ensures { result ≡ kind_of text.now }
 {
-    if same(text, b"announcement") {
-        Some(Kind::Announcement)
-    } else if same(text, b"counting") {
-        Some(Kind::Counting)
-    } else {
-        None
+    match text {
+        b"announcement" => Some(Kind::Announcement),
+        b"counting" => Some(Kind::Counting),
+        _ => None,
     }
 }
 

@@ -1,25 +1,13 @@
 ghost use Rattle.std.specs.Prelude.{◌≡◌};
 ghost use Rattle.schedule.specs.Lines.{Numbered};
 ghost use Rattle.schedule.specs.Pieces.{Cuts, Leads, number_in, plain, with_digit};
-ghost use Rattle.std.specs.Str.{bytes_eq};
-
-// Whether two texts are the same.
-pub(crate) fn same(a: &[u8], b: &[u8]) -> bool
-    ensures { result ≡ bytes_eq a.now b.now }
-{
-    a == b
-}
 
 // What stands before the first `mark`, and what stands behind it.
 pub(crate) fn cut(text: &[u8], mark: u8) -> Option<(&[u8], &[u8])>
     ensures { Cuts mark text.now result }
 {
-    for (i, b) in text.iter().enumerate() {
-        if *b == mark {
-            return Some((&text[0..i], &text[i + 1..]));
-        }
-    }
-    None
+    let i = text.iter().position(|b| *b == mark)?;
+    Some((&text[..i], &text[i + 1..]))
 }
 
 // Whether a text can be a number by its front: it is not empty, and begins with 0 only if that is all.
@@ -40,12 +28,8 @@ fn with_digit(n: u32, b: u8, most: u32) -> Option<u32>
     if !b.is_ascii_digit() {
         return None;
     }
-    let longer = 10 * u64::from(n) + u64::from(b - b'0');
-    if longer <= u64::from(most) {
-        Some(longer as u32)
-    } else {
-        None
-    }
+    let longer = n.checked_mul(10)?.checked_add(u32::from(b - b'0'))?;
+    if longer <= most { Some(longer) } else { None }
 }
 
 // The number that `text` writes, if it is at most `most`.

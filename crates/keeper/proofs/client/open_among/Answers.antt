@@ -1,16 +1,10 @@
 -- Each turn leaves the program opening or ends its open; after the declared number of turns no step would be left.
-use Rattle.std.proofs.Common.{◌≡◌, ℕ, suc, ◌+◌, ◌-◌, [], Ok, sym, refl, ap, subst, add-one, arith}
+use Rattle.std.proofs.Common.{◌≡◌, ℕ, suc, ◌+◌, ◌-◌, Ok, sym, refl, ap, subst, add-one, arith}
 use Rattle.keeper.specs.declared.outcome.Outcome.{Outcome}
 use Rattle.keeper.specs.Effects.{StepSays}
 use Rattle.keeper.specs.Course.{turns, calls_in}
 use Rattle.keeper.proofs.Waits.{Waiting, begins_waiting, others_waiting, turn_waiting, steps_left, step_allowed, step_answers, step_goes, ends_open, never_refused}
 use Rattle.keeper.proofs.client.open_among.Goals as goal
-
-pub loop-turn-init : goal.loop-turn-init
-loop-turn-init g c = λ m w.
-    let most = c.declared-most.result.opening in
-    let none : most - 0 ≡ most = omega arith in
-    subst (λ (k : ℕ). Waiting m c.args.program [] k (g.K.Enquiry.meaning c.open.new.self)) (sym none) w
 
 pub returns-in_err-outcome : goal.returns-in_err-outcome
 returns-in_err-outcome g c =

@@ -1,6 +1,4 @@
-use Rattle.std.proofs.Common.{◌+◌, List, [], take, sym, ◌∙◌, subst}
-use Rattle.std.proofs.lemmas.List.{take_all}
-use Rattle.keeper.specs.declared.client.Action.{Action}
+use Rattle.std.proofs.Common.{◌+◌, [], take, sym, ◌∙◌, subst}
 use Rattle.keeper.specs.declared.client.Action.TheVariants.{Open}
 use Rattle.keeper.specs.Course.{MadeByOthers, none, others_of}
 use Rattle.keeper.proofs.Waits.{others_made, own_skipped}
@@ -25,9 +23,3 @@ loop-call-preserved g c =
           subst (λ (k : g.row.K.Denot). MadeByOthers c.args.program (past (take (i + 1) calls) []) (meaning c.args.keeper.now) (meaning k)) (sym w.keeper-is)
           (own_skipped c.args.program calls i (Open 0) c.loop-call-test.true (sym c.program.ensures ∙ w.if-program.false) c.loop-call.invariant)
     ]
-
-pub returns : goal.returns
-returns g c =
-    let meaning = g.K.Enquiry.meaning in
-    subst (λ (cs : List Action). MadeByOthers c.args.program (others_of c.args.program cs []) (meaning c.args.keeper.now) (meaning c.loop-call.keeper))
-    (take_all c.loop-call.call-index c.args.calls.now c.loop-call-test.false) c.loop-call.invariant

@@ -1,12 +1,17 @@
-use Rattle.std.proofs.Common.{◌∙◌}
-use Rattle.schedule.proofs.Marks.{cut_here, cut_more, cut_none}
+use Rattle.std.proofs.Common.{◌==◌, sym, ◌∙◌, rules, tests}
+use Rattle.std.proofs.lemmas.Iterator.{YieldsList-from_slice}
+use Rattle.std.proofs.lemmas.Iterator.Search.{position_from_yields_List}
+use Rattle.schedule.proofs.Marks.{cut_first, cut_nowhere}
 use Rattle.schedule.proofs.text.cut.Goals as goal
 
-pub returns-then-b-mark : goal.returns-then-b-mark
-returns-then-b-mark c = c.loop-i.invariant ∙ cut_here _ _ _ c.loop-i-test.true c.if-b-mark.true
-
-pub loop-i-preserved : goal.loop-i-preserved
-loop-i-preserved c = c.loop-i.invariant ∙ cut_more _ _ _ c.loop-i-test.true c.if-b-mark.false
+pub returns-in_err-i : goal.returns-in_err-i
+returns-in_err-i c =
+    let mark = c.args.mark in
+    let found = position_from_yields_List (λ b. b == mark) _ _ c.position.result c.position.ensures.ran (YieldsList-from_slice c.args.text.now cc) (λ x b q k. search (rules, tests)) in
+    rw c.from_residual.ensures (cut_nowhere mark c.args.text.now (sym found ∙ c.in_err-i.was))
 
 pub returns : goal.returns
-returns c = c.loop-i.invariant ∙ cut_none c.args.mark _ _ c.loop-i-test.false
+returns c =
+    let mark = c.args.mark in
+    let found = position_from_yields_List (λ b. b == mark) _ _ c.position.result c.position.ensures.ran (YieldsList-from_slice c.args.text.now cc) (λ x b q k. search (rules, tests)) in
+    cut_first mark c.args.text.now c.in_ok-i.i (sym found ∙ c.in_ok-i.was)

@@ -1,4 +1,4 @@
-use Rattle.std.proofs.Common.{◌≡◌, ◌<◌, Ok, Err, sym, ap, ◌∙◌, subst, arith}
+use Rattle.std.proofs.Common.{◌≡◌, ◌<◌, Ok, sym, ap, ◌∙◌, subst, arith}
 use Rattle.keeper.specs.Stages.{has}
 use Rattle.keeper.specs.Effects.{root_answer}
 use Rattle.counting.specs.Model.{state_of}
@@ -6,7 +6,7 @@ use Rattle.counting.specs.Moves.{meaning_of, stage_at}
 use Rattle.counting.specs.Bridge.{good, stage_here}
 use Rattle.counting.specs.Means.{has_engaged}
 use Rattle.counting.specs.Steps.{used_held}
-use Rattle.counting.proofs.Calls.{root_says, root_none}
+use Rattle.counting.proofs.Calls.{root_says}
 use Rattle.counting.proofs.keep.CountingEnquiry.root.Goals as goal
 
 pub row_of-i-requires : goal.row_of-i-requires
@@ -17,18 +17,10 @@ row_of-i-requires c =
     let h : c.in_ok-p.p < c.args.self.now.programs = omega (arith, seat) in
     used_held (state_of k) (good k) p c.in-Some.serial h (has_engaged (stage_at (state_of k) p) _ (ap has (stage_here k p h) ∙ sym c.in-Some.ensures))
 
-pub returns-in-Some : goal.returns-in-Some
-returns-in-Some c =
+pub returns : goal.returns
+returns c =
     let k = c.args.self.now in
     let p = c.in_ok-p.p in
     let seat = c.in_ok-p.ensures in
     subst (λ q. Ok c.root.result ≡ root_answer (meaning_of (state_of k)) q) seat.0
     (root_says k p (omega (arith, seat)) c.in-Some.serial c.row_of-i.result c.root.result c.in-Some.ensures c.row_of-i.ensures.value c.row_of-i.ensures.bound c.root.ensures)
-
-pub returns-in-None : goal.returns-in-None
-returns-in-None c =
-    let k = c.args.self.now in
-    let p = c.in_ok-p.p in
-    let seat = c.in_ok-p.ensures in
-    subst (λ q. Err c.refused.result ≡ root_answer (meaning_of (state_of k)) q) seat.0
-    (root_none k p (omega (arith, seat)) c.refused.result c.in-None.ensures c.refused.ensures)

@@ -2,7 +2,7 @@ use Rattle.std.proofs.Common.{refl, arith}
 use Rattle.keeper.specs.declared.stage.Stage.TheVariants.{Open}
 use Rattle.counting.specs.Model.{state_of}
 use Rattle.counting.specs.Moves.{raised}
-use Rattle.counting.specs.Bridge.{good, fields, view_row, few_users}
+use Rattle.counting.specs.Bridge.{good, fields, view_row, few_users, at_work, opens_moving}
 use Rattle.counting.specs.Steps.{current_held, open_good}
 use Rattle.counting.proofs.state.Counting.end_open.Goals as goal
 
@@ -17,7 +17,7 @@ invariant_of-self c =
     let k = c.args.self.now in
     let s = k.current.serial in
     let held = fields _ _ (view_row k raised s c.args.p (Open s) c.row_of-i.result c.raised.result c.row_of-i.ensures.value c.row_of-i.ensures.bound c.raised.ensures)
-    (open_good (state_of k) (good k) c.args.p c.requires.within c.requires.opens) in
+    (open_good (state_of k) (good k) c.args.p (at_work k c.args.p (opens_moving _ c.requires)) c.requires) in
     record { sized = held.0; filled = held.1.0; counted = held.1.1.0 }
 
 pub returns : goal.returns
