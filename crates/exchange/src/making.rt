@@ -13,20 +13,13 @@ use crate::faults::refused;
 use crate::unmade::Unmade;
 use cells_theory::{Cell, Heads};
 use exchange_theory::{Desk, Places, Row};
-use keeper::{Enquiry, Keeper, Refusal};
-
-// Whether so many programs and that last serial are within the limits.
-fn are_limits(programs: u32, last: u32) -> bool
-    ensures { result ≡ limits programs last }
-{
-    (programs >= 1 && programs <= 8) && (last >= 1 && last <= 4_000_000_000)
-}
+use keeper::{Enquiry, Keeper, Refusal, within_limits};
 
 // Whether so many cells and leaves are a memory: as many of both.
 fn are_memory(size: usize, leaves: usize) -> bool
     ensures { result ≡ new_memory size leaves }
 {
-    size >= 1 && size <= 65_536 && leaves == size
+    (1..=65_536).contains(&size) && leaves == size
 }
 
 // Whether a program of the keeper is idle.
@@ -61,7 +54,7 @@ fn can_make<K: Enquiry>(keeper: &K, size: usize, leaves: usize) -> bool
     ensures few { result ≡ true → (K.Enquiry.meaning keeper.now).programs ≤ 8 }
     ensures small { result ≡ true → size ≤ 65536 }
 {
-    are_limits(keeper.programs(), keeper.last()) && are_memory(size, leaves) && is_new(keeper)
+    within_limits(keeper.programs(), keeper.last()) && are_memory(size, leaves) && is_new(keeper)
 }
 
 // The desk of a new exchange: all places are empty.

@@ -3,9 +3,9 @@ ghost use Rattle.exchange_theory.specs.Reading.{Roots, Downs, Looks};
 ghost use Rattle.exchange.specs.Worlds.{world_of};
 
 use crate::exchange::Exchange;
-use crate::faults::{damaged, refused};
+use crate::faults::refused;
 use crate::placing::with_row;
-use cells_theory::{Cell, Field, Shown};
+use cells_theory::{Cell, DAMAGED, Field, Shown};
 use exchange_theory::Column;
 use keeper::{Enquiry, Fault, Keeper, Refusal};
 
@@ -30,7 +30,7 @@ impl<K: Keeper> Exchange<K> {
         self.admit(program, place < 8, Column::Root, cells, leaves)?;
         let root = self.keeper.root(program)?;
         if root >= self.desk.places.cells {
-            return Err(damaged());
+            return Err(DAMAGED);
         }
         let row = self
             .desk
