@@ -7,7 +7,7 @@ ghost use Rattle.announcement.specs.Model.{state_in, Made};
 
 use crate::stages::stage_in;
 use crate::state::Announcing;
-use announcement_theory::{Announcement, Mark, Position, Seat, Slot, Status};
+use announcement_theory::{Announcement, Mark, Position, Seat, Status, Stored};
 use board::Board;
 use keeper::{Fault, Outcome, Refusal, Stage, check_limits, refused};
 
@@ -21,12 +21,12 @@ impl Announcing {
             position: Position::Idle,
             announced: Announcement::Empty,
         };
-        let mut slots = [Slot::Empty; 25];
-        slots[0] = Slot::Filled {
+        let mut slots = [None; 25];
+        slots[0] = Some(Stored {
             serial: 0,
             root: 0,
             status: Status::Usable,
-        };
+        });
         let board = Board {
             programs,
             last,

@@ -1,5 +1,5 @@
 use crate::state::Announcing;
-use announcement_theory::{Announcement, Slot, Status};
+use announcement_theory::{Announcement, Status, Stored};
 use std::fmt;
 
 fn status_name(status: Status) -> &'static str {
@@ -14,11 +14,13 @@ impl Announcing {
     // Each filled slot, in rising order.
     fn write_slots<W: fmt::Write>(&self, f: &mut fmt::Formatter<W>) -> fmt::Result {
         for j in 0..3 * self.board.programs + 1 {
-            if let Slot::Filled {
-                serial,
-                root,
-                status,
-            } = self.board.slot_at(j)
+            if let Some(
+                Stored {
+                    serial,
+                    root,
+                    status,
+                },
+            ) = self.board.slot_at(j)
             {
                 let status = status_name(status);
                 write!(f, " | slot {j} {serial} root {root} {status}")?;

@@ -4,16 +4,16 @@ use Rattle.std.proofs.lemmas.Bool.{cases_eq, eq-eqb, eqb-true, and_parts, and_fr
 use Rattle.std.proofs.lemmas.List.{get_or_past}
 use Rattle.std.proofs.lemmas.Bool.Decides.{nat_tests}
 use Rattle.announcement_theory.specs.declared.mark.Mark.{Mark}
+use Rattle.announcement_theory.specs.declared.slot.Status.{Status}
 use Rattle.announcement_theory.specs.declared.slot.Status.TheVariants.{Usable, Pending, Frozen}
-use Rattle.announcement_theory.specs.declared.slot.Slot.{Slot}
-use Rattle.announcement_theory.specs.declared.slot.Slot.TheVariants as slot
+use Rattle.announcement_theory.specs.declared.slot.Stored.{Stored}
 use Rattle.announcement_theory.specs.declared.announcement.Announcement.{Announcement}
 use Rattle.announcement_theory.specs.declared.announcement.Announcement.TheVariants as announcement
 use Rattle.announcement_theory.specs.declared.position.Position.{Position}
 use Rattle.announcement_theory.specs.declared.position.Position.TheVariants.{Idle, O1, O2, O3, O4, O5, O6, Open, F1, F2, F3, Offered, C1, C2, C3, C4, C5, C6, C7}
 use Rattle.announcement_theory.specs.declared.seat.Seat.{Seat}
 use Rattle.announcement_theory.specs.State.{State, mark, unseated, seat_at}
-use Rattle.announcement_theory.specs.Tests.{is_mark, asks, bears, filled, serial_in, holds, usable, pending, frozen}
+use Rattle.announcement_theory.specs.Tests.{is_mark, asks, bears, filled, serial_in, holds, is_usable, is_pending, is_frozen, usable, pending, frozen}
 use Rattle.announcement_theory.specs.Next.{put}
 use Rattle.announcement_theory.specs.Views.{Manner, silent, asking, holding, fits, offerer, owns, owned_in, owned, Offerer, aside, seeks}
 
@@ -49,39 +49,44 @@ pub mark_flip : (v w : Mark) → is_mark v w ≡ is_mark w v
 mark_flip v w = grind (arith, nat_tests)
 
 -- a version in its slot, and other facts of slots
-pub holds_filled : (v : Mark) (x : Slot) → holds v x ≡ true → filled x ≡ true
-holds_filled v slot.Empty e = e
-holds_filled v (slot.Filled n r st) e = refl
+pub holds_filled : (v : Mark) (x : Option Stored) → holds v x ≡ true → filled x ≡ true
+holds_filled v None e = e
+holds_filled v (Some x) e = refl
 
-pub holds_serial : (v : Mark) (x : Slot) → holds v x ≡ true → serial_in x ≡ v.serial
-holds_serial v slot.Empty e = false_true e
-holds_serial v (slot.Filled n r st) e = eqb-true n v.serial e
+pub holds_serial : (v : Mark) (x : Option Stored) → holds v x ≡ true → serial_in x ≡ v.serial
+holds_serial v None e = false_true e
+holds_serial v (Some x) e = eqb-true x.serial v.serial e
 
-pub serial_holds : (v : Mark) (x : Slot) → filled x ≡ true → serial_in x ≡ v.serial → holds v x ≡ true
-serial_holds v slot.Empty f e = f
-serial_holds v (slot.Filled n r st) f e = eq-eqb n v.serial e
+pub serial_holds : (v : Mark) (x : Option Stored) → filled x ≡ true → serial_in x ≡ v.serial → holds v x ≡ true
+serial_holds v None f e = f
+serial_holds v (Some x) f e = eq-eqb x.serial v.serial e
 
-pub usable_filled : (x : Slot) → usable x ≡ true → filled x ≡ true
-usable_filled slot.Empty e = e
-usable_filled (slot.Filled n r st) e = refl
+pub usable_filled : (x : Option Stored) → usable x ≡ true → filled x ≡ true
+usable_filled None e = e
+usable_filled (Some x) e = refl
 
-pub usable_pending : (x : Slot) → usable x ≡ true → pending x ≡ false
-usable_pending slot.Empty e = refl
-usable_pending (slot.Filled n r Usable) e = refl
-usable_pending (slot.Filled n r Pending) e = false_true e
-usable_pending (slot.Filled n r Frozen) e = refl
+-- what is usable is not pending and not frozen, and what is pending is not frozen
+only_usable : (st : Status) → is_usable st ≡ true → (is_pending st ≡ false) × (is_frozen st ≡ false)
+only_usable Usable e = (refl, refl)
+only_usable Pending e = false_true e
+only_usable Frozen e = false_true e
 
-pub usable_frozen : (x : Slot) → usable x ≡ true → frozen x ≡ false
-usable_frozen slot.Empty e = refl
-usable_frozen (slot.Filled n r Usable) e = refl
-usable_frozen (slot.Filled n r Pending) e = refl
-usable_frozen (slot.Filled n r Frozen) e = false_true e
+only_pending : (st : Status) → is_pending st ≡ true → is_frozen st ≡ false
+only_pending Usable e = refl
+only_pending Pending e = refl
+only_pending Frozen e = false_true e
 
-pub pending_frozen : (x : Slot) → pending x ≡ true → frozen x ≡ false
-pending_frozen slot.Empty e = refl
-pending_frozen (slot.Filled n r Usable) e = refl
-pending_frozen (slot.Filled n r Pending) e = refl
-pending_frozen (slot.Filled n r Frozen) e = false_true e
+pub usable_pending : (x : Option Stored) → usable x ≡ true → pending x ≡ false
+usable_pending None e = refl
+usable_pending (Some x) e = (only_usable x.status e).0
+
+pub usable_frozen : (x : Option Stored) → usable x ≡ true → frozen x ≡ false
+usable_frozen None e = refl
+usable_frozen (Some x) e = (only_usable x.status e).1
+
+pub pending_frozen : (x : Option Stored) → pending x ≡ true → frozen x ≡ false
+pending_frozen None e = refl
+pending_frozen (Some x) e = only_pending x.status e
 
 -- the slot of an owner, whatever number of programs it counts with
 pub owned_is : (all : ℕ) (at : Position) → owned_in (offerer all at) ≡ owned at

@@ -5,8 +5,7 @@ use Rattle.std.proofs.lemmas.List.{get_or_past}
 use Rattle.announcement_theory.specs.declared.mark.Mark.{Mark}
 use Rattle.announcement_theory.specs.declared.slot.Status.{Status}
 use Rattle.announcement_theory.specs.declared.slot.Status.TheVariants.{Usable, Pending, Frozen}
-use Rattle.announcement_theory.specs.declared.slot.Slot.{Slot}
-use Rattle.announcement_theory.specs.declared.slot.Slot.TheVariants as slot
+use Rattle.announcement_theory.specs.declared.slot.Stored.{Stored}
 use Rattle.announcement_theory.specs.declared.announcement.Announcement.{Announcement}
 use Rattle.announcement_theory.specs.declared.announcement.Announcement.TheVariants as announcement
 use Rattle.announcement_theory.specs.declared.position.Round.{Round}
@@ -14,9 +13,9 @@ use Rattle.announcement_theory.specs.declared.position.Round.TheVariants.{First,
 use Rattle.announcement_theory.specs.declared.position.Position.{Position}
 use Rattle.announcement_theory.specs.declared.position.Position.TheVariants.{Idle, O1, O2, O3, O4, O5, O6, Open, F1, F2, F3, Offered, C1, C2, C3, C4, C5, C6, C7}
 use Rattle.announcement_theory.specs.declared.seat.Seat.{Seat}
-use Rattle.announcement_theory.specs.State.{State, mark, seat, slot_at, seat_at, position_at, announced_at}
+use Rattle.announcement_theory.specs.State.{State, mark, seat, stored, slot_at, seat_at, position_at, announced_at}
 use Rattle.announcement_theory.specs.Tests.{is_mark, asks, bears, flagged, filled, serial_in, holds, usable, frozen, restated}
-use Rattle.announcement_theory.specs.Next.{put, fill, advance, go_to, announce, Stepped, goes, stepped, opens_on, stales, step_at, step, opens, publishes, closes, searches, looks, hands, again, next_or, version_had}
+use Rattle.announcement_theory.specs.Next.{put, fill, advance, go_to, announce, Stepped, goes, stepped, opens_on, stales, step_at, step, opens, publishes, closes, searches, looks, looks_on, hands, hands_on, again, next_or, version_had}
 use Rattle.announcement_theory.specs.Views.{holding, manner, about, Mentions, since, opener, owns, offerer, owned, closer}
 use Rattle.announcement_theory.specs.Invariant.{Holds, Good}
 use Rattle.announcement_theory.proofs.Basics.{false_true, clash, mark_same, same_mark, mark_flip, owner_owns, asks_help, asking_bound, at_other}
@@ -155,7 +154,7 @@ module _ (s : State) (g : Good s) (p : ℕ) (h : p < s.programs) where
   over_old : (over : Mark) → mine ≡ announcement.Plain over → is_mark V over ≡ false → over.serial ≡ V.serial → ⊥
   over_old over a c e = clash (is_mark V over) (same_mark V over (sym (current_only s g p over (says_mentions s p over a) (g.held p over a) e))) c
 
-  f1_done : (r : ℕ) (over : Mark) (i : ℕ) → position_at s p ≡ F1 r over i → (x : Slot) → slot_at s i ≡ x → Does s p (searches s p r over i x)
+  f1_done : (r : ℕ) (over : Mark) (i : ℕ) → position_at s p ≡ F1 r over i → (x : Option Stored) → slot_at s i ≡ x → Does s p (searches s p r over i x)
   f1_done r over i e = go
     where
       a : mine ≡ announcement.Plain over
@@ -167,15 +166,15 @@ module _ (s : State) (g : Good s) (p : ℕ) (h : p < s.programs) where
       near : i ≤ 3 * s.programs
       near = leb-true i (3 * s.programs) (ranged_at s g p h (F1 r over i) e)
 
-      go : (x : Slot) → slot_at s i ≡ x → Does s p (searches s p r over i x)
-      go slot.Empty f =
-          let y = slot.Filled (V.serial + 1) r Usable in
+      go : (x : Option Stored) → slot_at s i ≡ x → Does s p (searches s p r over i x)
+      go None f =
+          let y = Some (stored (V.serial + 1) r Usable) in
           let new = seat (F2 r over i 0) mine in
           continues s g p h (fill s i y) new refl refl refl (seat (F1 r over i) mine) (seat_at_is (F1 r over i) e) refl (omega (arith, near))
           (fills s g p h i y new (omega (arith, near, g.sized.2))
           (λ (k : i ≡ V.slot). empty_usable (slot_at s V.slot) (ap (slot_at s) (sym k) ∙ f) g.current.1)
           (ap owned e) refl f)
-      go (slot.Filled n m st) f = test (ltb i (3 * s.programs)) refl
+      go (Some y) f = test (ltb i (3 * s.programs)) refl
         where
           full : filled (slot_at s i) ≡ true
           full = ap filled f
@@ -199,13 +198,13 @@ module _ (s : State) (g : Good s) (p : ℕ) (h : p < s.programs) where
       let owned_here : owned (position_at s p) ≡ Some i = owner_owns s.programs (position_at s p) r over i f here in
       let good = g.own p r over i f here in
       let new = seat (Offered over) mine in
-      gives_up s g p h (fill s i slot.Empty) new refl refl refl (seat at mine) (seat_at_is at e) r over (st mine) refl (over_old over a c)
-      (empties s g p h i slot.Empty new (in_slots i good.0)
+      gives_up s g p h (fill s i None) new refl refl refl (seat at mine) (seat_at_is at e) r over (st mine) refl (over_old over a c)
+      (empties s g p h i None new (in_slots i good.0)
       (λ (k : i ≡ V.slot). g.current.3 p (owned_here ∙ ap {B = Option ℕ} Some k)) owned_here refl refl)
     where
       in_slots : (i : ℕ) → usable (slot_at s i) ≡ true → i < length s.slots
       in_slots i u = ⊎_elim (λ (l : i < length s.slots). l)
-          (λ (b : length s.slots ≤ i). empty_usable (slot_at s i) (get_or_past s.slots i slot.Empty b) u)
+          (λ (b : length s.slots ≤ i). empty_usable (slot_at s i) (get_or_past s.slots i None b) u)
           (cases_lt i (length s.slots))
 
   f3_done : (r : ℕ) (over : Mark) (i : ℕ) → position_at s p ≡ F3 r over i → (b : Bool) → is_mark V over ≡ b
@@ -341,48 +340,54 @@ module _ (s : State) (g : Good s) (p : ℕ) (h : p < s.programs) where
       continues s g p h (fill s v.slot (restated st (slot_at s v.slot))) (seat to mine) refl refl refl (seat at mine) (seat_at_is at e) same fewer
       (restates s g p h v.slot st (seat to mine) (holds_in_range s v t) (none ∙ sym (ap owned e ∙ free)))
 
-  c3_done : (v : Mark) → position_at s p ≡ C3 v → (x : Slot) → slot_at s v.slot ≡ x → Does s p (looks s p v x)
+  c3_done : (v : Mark) → position_at s p ≡ C3 v → (x : Option Stored) → slot_at s v.slot ≡ x → Does s p (looks s p v x)
   c3_done v e = go
     where
       end : Does s p (stepped (go_to s p Idle) Nothing)
       end = ends_close (C3 v) v e refl (λ a. refl)
 
-      go : (x : Slot) → slot_at s v.slot ≡ x → Does s p (looks s p v x)
-      go slot.Empty f = end
-      go (slot.Filled n r Usable) f = test (eqb n v.serial) refl
+      go_on : (n r : ℕ) (st : Status) → slot_at s v.slot ≡ Some (stored n r st) → Does s p (looks_on s p v n r st)
+      go_on n r Usable f = test (eqb n v.serial) refl
         where
           test : (b : Bool) → eqb n v.serial ≡ b → Does s p
-              (cond b (goes (fill s v.slot (slot.Filled n r Pending)) p (C4 v 0)) (stepped (go_to s p Idle) Nothing))
+              (cond b (goes (fill s v.slot (Some (stored n r Pending))) p (C4 v 0)) (stepped (go_to s p Idle) Nothing))
           test true c = subst (λ y. Does s p (goes (fill s v.slot y) p (C4 v 0))) (ap (restated Pending) f)
               (restate_done (C3 v) (C4 v 0) v Pending e (ap (holds v) f ∙ c) refl refl refl (omega arith))
           test false c = end
-      go (slot.Filled n r Pending) f = end
-      go (slot.Filled n r Frozen) f = test (eqb n v.serial) refl
+      go_on n r Pending f = end
+      go_on n r Frozen f = test (eqb n v.serial) refl
         where
           test : (b : Bool) → eqb n v.serial ≡ b → Does s p (cond b (goes s p (C6 v 0)) (stepped (go_to s p Idle) Nothing))
           test true c = on_opening (C3 v) (C6 v 0) e refl refl refl (omega arith)
           test false c = end
 
-  c7_done : (v : Mark) → position_at s p ≡ C7 v → (x : Slot) → slot_at s v.slot ≡ x → Does s p (hands s p v x)
+      go : (x : Option Stored) → slot_at s v.slot ≡ x → Does s p (looks s p v x)
+      go None f = end
+      go (Some x) f = go_on x.serial x.root x.status f
+
+  c7_done : (v : Mark) → position_at s p ≡ C7 v → (x : Option Stored) → slot_at s v.slot ≡ x → Does s p (hands s p v x)
   c7_done v e = go
     where
       end : Does s p (stepped (go_to s p Idle) Nothing)
       end = ends_close (C7 v) v e refl (λ a. refl)
 
-      go : (x : Slot) → slot_at s v.slot ≡ x → Does s p (hands s p v x)
-      go slot.Empty f = end
-      go (slot.Filled n r Usable) f = end
-      go (slot.Filled n r Pending) f = end
-      go (slot.Filled n r Frozen) f = test (eqb n v.serial) refl
+      go_on : (n r : ℕ) (st : Status) → slot_at s v.slot ≡ Some (stored n r st) → Does s p (hands_on s p v n st)
+      go_on n r Usable f = end
+      go_on n r Pending f = end
+      go_on n r Frozen f = test (eqb n v.serial) refl
         where
           a : mine ≡ announcement.Empty
           a = empty_at s g p h (C7 v) e refl
 
           test : (b : Bool) → eqb n v.serial ≡ b → Does s p
-              (cond b (stepped (go_to (fill s v.slot slot.Empty) p Idle) (HandedOut v.serial)) (stepped (go_to s p Idle) Nothing))
-          test true c = subst (λ y. Does s p (stepped (put (fill s v.slot slot.Empty) p (seat Idle y)) (HandedOut v.serial))) (sym a)
+              (cond b (stepped (go_to (fill s v.slot None) p Idle) (HandedOut v.serial)) (stepped (go_to s p Idle) Nothing))
+          test true c = subst (λ y. Does s p (stepped (put (fill s v.slot None) p (seat Idle y)) (HandedOut v.serial))) (sym a)
               (hands_out s g p h v (seat_is s p (C7 v) announcement.Empty e a) (ap (holds v) f ∙ c) (ap frozen f))
           test false c = end
+
+      go : (x : Option Stored) → slot_at s v.slot ≡ x → Does s p (hands s p v x)
+      go None f = end
+      go (Some x) f = go_on x.serial x.root x.status f
 
   done_at : (at : Position) → position_at s p ≡ at → moving (stage_from mine at) ≡ true → Does s p (step_at s p at)
   done_at Idle e m = false_true m

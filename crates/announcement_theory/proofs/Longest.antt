@@ -1,20 +1,20 @@
 -- Steps left are the steps of the longest way to an end.
-use Rattle.std.proofs.Common.{◌≡◌, ℕ, zero, suc, ◌+◌, ◌-◌, ◌*◌, ◌<◌, ◌≤◌, max, Bool, true, false, cond, eqb, ltb, leb, List, [], ◌∷◌, map, length, replicate, is_some, sym, refl, ap, ◌∙◌, subst, inl, inr, arith, length-set}
+use Rattle.std.proofs.Common.{◌≡◌, ℕ, zero, suc, ◌+◌, ◌-◌, ◌*◌, ◌<◌, ◌≤◌, max, Bool, true, false, cond, eqb, ltb, leb, List, [], ◌∷◌, map, length, replicate, is_some, Some, None, Option, sym, refl, ap, ◌∙◌, subst, inl, inr, arith, length-set}
 use Rattle.std.proofs.lemmas.Bool.{eq-eqb, and_parts, ltb-true, ltb-false, leb-true}
 use Rattle.std.proofs.lemmas.Bool.Decides.{nat_tests}
 use Rattle.announcement_theory.specs.declared.mark.Mark.{Mark}
+use Rattle.announcement_theory.specs.declared.slot.Status.{Status}
 use Rattle.announcement_theory.specs.declared.slot.Status.TheVariants.{Usable, Pending, Frozen}
-use Rattle.announcement_theory.specs.declared.slot.Slot.{Slot}
-use Rattle.announcement_theory.specs.declared.slot.Slot.TheVariants as slot
+use Rattle.announcement_theory.specs.declared.slot.Stored.{Stored}
 use Rattle.announcement_theory.specs.declared.announcement.Announcement.TheVariants as announcement
 use Rattle.announcement_theory.specs.declared.position.Round.{Round}
 use Rattle.announcement_theory.specs.declared.position.Round.TheVariants.{First, Second}
 use Rattle.announcement_theory.specs.declared.position.Position.{Position}
 use Rattle.announcement_theory.specs.declared.position.Position.TheVariants.{Idle, O1, O2, O3, O4, O5, O6, Open, F1, F2, F3, Offered, C1, C2, C3, C4, C5, C6, C7}
 use Rattle.announcement_theory.specs.declared.seat.Seat.{Seat}
-use Rattle.announcement_theory.specs.State.{State, mark, seat, slot_at, position_at, announced_at}
+use Rattle.announcement_theory.specs.State.{State, mark, seat, stored, slot_at, position_at, announced_at}
 use Rattle.announcement_theory.specs.Tests.{is_mark, asks, bears, flagged, version_in, serial_in, restated}
-use Rattle.announcement_theory.specs.Next.{put, fill, advance, go_to, announce, Stepped, goes, stepped, opens_on, stales, step_at, step, searches, looks, hands, again, next_or}
+use Rattle.announcement_theory.specs.Next.{put, fill, advance, go_to, announce, Stepped, goes, stepped, opens_on, stales, step_at, step, searches, looks, looks_on, hands, hands_on, again, next_or}
 use Rattle.announcement_theory.proofs.Basics.{false_true, true_false, mark_self, at_same}
 use Rattle.std.proofs.lemmas.List.{get_or-replicate}
 use Rattle.keeper.specs.declared.outcome.Outcome.TheVariants.{GoesOn, Opened, Accepted, Stale, Nothing, HandedOut}
@@ -135,10 +135,10 @@ module _ (s : State) (p : ℕ) (h : p < length s.seats) where
   into_o5 n w r true e = inl (there s (seat (O6 n w r) (announcement.Help w)) h)
   into_o5 n w r false e = absurd (opened_ends (version_in (announced_at s p)).serial e)
 
-  into_f1 : (r : ℕ) (over : Mark) (i : ℕ) (x : Slot) → Into (searches s p r over i x)
+  into_f1 : (r : ℕ) (over : Mark) (i : ℕ) (x : Option Stored) → Into (searches s p r over i x)
       (F2 r over i 0 ∷ cond (ltb i (3 * s.programs)) (F1 r over (i + 1) ∷ []) [])
-  into_f1 r over i slot.Empty e = inl (there (fill s i (slot.Filled (s.current.serial + 1) r Usable)) (seat (F2 r over i 0) (announced_at s p)) h)
-  into_f1 r over i (slot.Filled n m st) f = go (ltb i (3 * s.programs)) f
+  into_f1 r over i None e = inl (there (fill s i (Some (stored (s.current.serial + 1) r Usable))) (seat (F2 r over i 0) (announced_at s p)) h)
+  into_f1 r over i (Some x) f = go (ltb i (3 * s.programs)) f
     where
       go : (b : Bool) → Into (cond b (goes s p (F1 r over (i + 1))) (stepped (go_to s p (Offered over)) Stale))
           (F2 r over i 0 ∷ cond b (F1 r over (i + 1) ∷ []) [])
@@ -163,20 +163,23 @@ module _ (s : State) (p : ℕ) (h : p < length s.seats) where
   into_c2 v true e = absurd (nothing_ends e)
   into_c2 v false e = inl (there s (seat (C3 v) (announced_at s p)) h)
 
-  into_c3 : (v : Mark) (x : Slot) → Into (looks s p v x) (C4 v 0 ∷ C6 v 0 ∷ [])
-  into_c3 v slot.Empty e = absurd (nothing_ends e)
-  into_c3 v (slot.Filled n r Usable) f = go (eqb n v.serial) f
+  into_c3_on : (v : Mark) (n r : ℕ) (st : Status) → Into (looks_on s p v n r st) (C4 v 0 ∷ C6 v 0 ∷ [])
+  into_c3_on v n r Usable f = go (eqb n v.serial) f
     where
-      go : (b : Bool) → Into (cond b (goes (fill s v.slot (slot.Filled n r Pending)) p (C4 v 0)) (stepped (go_to s p Idle) Nothing))
+      go : (b : Bool) → Into (cond b (goes (fill s v.slot (Some (stored n r Pending))) p (C4 v 0)) (stepped (go_to s p Idle) Nothing))
           (C4 v 0 ∷ C6 v 0 ∷ [])
-      go true e = inl (there (fill s v.slot (slot.Filled n r Pending)) (seat (C4 v 0) (announced_at s p)) h)
+      go true e = inl (there (fill s v.slot (Some (stored n r Pending))) (seat (C4 v 0) (announced_at s p)) h)
       go false e = absurd (nothing_ends e)
-  into_c3 v (slot.Filled n r Pending) e = absurd (nothing_ends e)
-  into_c3 v (slot.Filled n r Frozen) f = go (eqb n v.serial) f
+  into_c3_on v n r Pending e = absurd (nothing_ends e)
+  into_c3_on v n r Frozen f = go (eqb n v.serial) f
     where
       go : (b : Bool) → Into (cond b (goes s p (C6 v 0)) (stepped (go_to s p Idle) Nothing)) (C4 v 0 ∷ C6 v 0 ∷ [])
       go true e = inr (inl (there s (seat (C6 v 0) (announced_at s p)) h))
       go false e = absurd (nothing_ends e)
+
+  into_c3 : (v : Mark) (x : Option Stored) → Into (looks s p v x) (C4 v 0 ∷ C6 v 0 ∷ [])
+  into_c3 v None e = absurd (nothing_ends e)
+  into_c3 v (Some x) e = into_c3_on v x.serial x.root x.status e
 
   into_c4 : (v : Mark) (x : ℕ) (next : Position) (b : Bool) → Into (cond b (goes (announce s x (announcement.Plain v)) p next) (goes s p next))
       (next ∷ [])
@@ -189,16 +192,19 @@ module _ (s : State) (p : ℕ) (h : p < length s.seats) where
   into_c6 next true e = absurd (nothing_ends e)
   into_c6 next false e = inl (there s (seat next (announced_at s p)) h)
 
-  into_c7 : (v : Mark) (x : Slot) → Into (hands s p v x) []
-  into_c7 v slot.Empty e = nothing_ends e
-  into_c7 v (slot.Filled n r Usable) e = nothing_ends e
-  into_c7 v (slot.Filled n r Pending) e = nothing_ends e
-  into_c7 v (slot.Filled n r Frozen) f = go (eqb n v.serial) f
+  into_c7_on : (v : Mark) (n : ℕ) (st : Status) → Into (hands_on s p v n st) []
+  into_c7_on v n Usable e = nothing_ends e
+  into_c7_on v n Pending e = nothing_ends e
+  into_c7_on v n Frozen f = go (eqb n v.serial) f
     where
-      go : (b : Bool) → Into (cond b (stepped (go_to (fill s v.slot slot.Empty) p Idle) (HandedOut v.serial))
+      go : (b : Bool) → Into (cond b (stepped (go_to (fill s v.slot None) p Idle) (HandedOut v.serial))
           (stepped (go_to s p Idle) Nothing)) []
       go true e = handed_ends v.serial e
       go false e = nothing_ends e
+
+  into_c7 : (v : Mark) (x : Option Stored) → Into (hands s p v x) []
+  into_c7 v None e = nothing_ends e
+  into_c7 v (Some x) e = into_c7_on v x.serial x.status e
 
   into : (at : Position) → is_some (label_of at) ≡ true → Into (step_at s p at) (successors s.programs s.current at)
   into Idle m = false_true m
@@ -226,7 +232,7 @@ pub leads : Leads
 leads s p h m e = into s p h (position_at s p) m e
 
 -- a state with one program in sight
-abbrev lone : ℕ → Mark → List Slot → Seat → State
+abbrev lone : ℕ → Mark → List (Option Stored) → Seat → State
 lone all c slots x = record { programs = all; last = 0; current = c; slots = slots; seats = x ∷ [] }
 
 -- another version than v
@@ -237,7 +243,7 @@ other_is : (v : Mark) → is_mark (other v) v ≡ false
 other_is v = grind (arith, nat_tests)
 
 -- all announcements are empty
-quiet : (all : ℕ) (c : Mark) (slots : List Slot) (at : Position) (x : ℕ) → announced_at
+quiet : (all : ℕ) (c : Mark) (slots : List (Option Stored)) (at : Position) (x : ℕ) → announced_at
     (lone all c slots (seat at announcement.Empty)) x ≡ announcement.Empty
 quiet all c slots at zero = refl
 quiet all c slots at (suc x) = refl
@@ -292,10 +298,10 @@ module _ (all : ℕ) where
 
   way_f1_f1 : (r : ℕ) (over : Mark) (i : ℕ) → ltb i (3 * all) ≡ true → Way all (F1 r over i) (F1 r over (i + 1))
   way_f1_f1 r over i l =
-      let full = slot.Filled 0 0 Usable in
+      let full = Some (stored 0 0 Usable) in
       let s = lone all over (replicate (suc i) full) (seat (F1 r over i) announcement.Empty) in
       way all (F1 r over i) (F1 r over (i + 1)) s refl refl (goes s 0 (F1 r over (i + 1)))
-      (ap (searches s 0 r over i) (get_or-replicate (suc i) i full slot.Empty (omega arith))
+      (ap (searches s 0 r over i) (get_or-replicate (suc i) i full None (omega arith))
       ∙ ap (λ b. cond b (goes s 0 (F1 r over (i + 1))) (stepped (go_to s 0 (Offered over)) Stale)) l) refl refl
 
   way_f1_f2 : (r : ℕ) (over : Mark) (i : ℕ) → Way all (F1 r over i) (F2 r over i 0)
@@ -328,19 +334,19 @@ module _ (all : ℕ) where
 
   way_c3_c4 : (v : Mark) → Way all (C3 v) (C4 v 0)
   way_c3_c4 v =
-      let held = slot.Filled v.serial 0 Usable in
+      let held = Some (stored v.serial 0 Usable) in
       let s = lone all v (replicate (suc v.slot) held) (seat (C3 v) announcement.Empty) in
-      let on : Stepped = goes (fill s v.slot (slot.Filled v.serial 0 Pending)) 0 (C4 v 0) in
+      let on : Stepped = goes (fill s v.slot (Some (stored v.serial 0 Pending))) 0 (C4 v 0) in
       way all (C3 v) (C4 v 0) s refl refl on
-      (ap (looks s 0 v) (get_or-replicate (suc v.slot) v.slot held slot.Empty (omega arith))
+      (ap (looks s 0 v) (get_or-replicate (suc v.slot) v.slot held None (omega arith))
       ∙ ap (λ b. cond b on (stepped (go_to s 0 Idle) Nothing)) (eq-eqb v.serial v.serial refl)) refl refl
 
   way_c3_c6 : (v : Mark) → Way all (C3 v) (C6 v 0)
   way_c3_c6 v =
-      let held = slot.Filled v.serial 0 Frozen in
+      let held = Some (stored v.serial 0 Frozen) in
       let s = lone all v (replicate (suc v.slot) held) (seat (C3 v) announcement.Empty) in
       way all (C3 v) (C6 v 0) s refl refl (goes s 0 (C6 v 0))
-      (ap (looks s 0 v) (get_or-replicate (suc v.slot) v.slot held slot.Empty (omega arith))
+      (ap (looks s 0 v) (get_or-replicate (suc v.slot) v.slot held None (omega arith))
       ∙ ap (λ b. cond b (goes s 0 (C6 v 0)) (stepped (go_to s 0 Idle) Nothing)) (eq-eqb v.serial v.serial refl)) refl refl
 
   way_c4 : (v : Mark) (x : ℕ) → Way all (C4 v x) (next_or all x (C4 v (x + 1)) (C5 v))

@@ -1,10 +1,10 @@
 -- Every beginning and every step keeps what always holds.
-use Rattle.std.proofs.Common.{◌≡◌, ℕ, ◌+◌, ◌*◌, ◌<◌, Bool, true, false, cond, eqb, ltb, leb, sym, refl, ap, ◌∙◌, subst, arith}
+use Rattle.std.proofs.Common.{◌≡◌, ℕ, ◌+◌, ◌*◌, ◌<◌, Bool, true, false, cond, eqb, ltb, leb, Some, None, Option, sym, refl, ap, ◌∙◌, subst, arith}
 use Rattle.std.proofs.lemmas.Bool.{and_parts, ltb-true, ltb-false}
 use Rattle.announcement_theory.specs.declared.mark.Mark.{Mark}
+use Rattle.announcement_theory.specs.declared.slot.Status.{Status}
 use Rattle.announcement_theory.specs.declared.slot.Status.TheVariants.{Usable, Pending, Frozen}
-use Rattle.announcement_theory.specs.declared.slot.Slot.{Slot}
-use Rattle.announcement_theory.specs.declared.slot.Slot.TheVariants as slot
+use Rattle.announcement_theory.specs.declared.slot.Stored.{Stored}
 use Rattle.announcement_theory.specs.declared.announcement.Announcement.{Announcement}
 use Rattle.announcement_theory.specs.declared.announcement.Announcement.TheVariants as announcement
 use Rattle.announcement_theory.specs.declared.position.Round.{Round}
@@ -12,9 +12,9 @@ use Rattle.announcement_theory.specs.declared.position.Round.TheVariants.{First,
 use Rattle.announcement_theory.specs.declared.position.Position.{Position}
 use Rattle.announcement_theory.specs.declared.position.Position.TheVariants.{Idle, O1, O2, O3, O4, O5, O6, Open, F1, F2, F3, Offered, C1, C2, C3, C4, C5, C6, C7}
 use Rattle.announcement_theory.specs.declared.seat.Seat.{Seat}
-use Rattle.announcement_theory.specs.State.{State, mark, seat, slot_at, seat_at, position_at, announced_at}
+use Rattle.announcement_theory.specs.State.{State, mark, seat, stored, slot_at, seat_at, position_at, announced_at}
 use Rattle.announcement_theory.specs.Tests.{is_mark, asks, bears, flagged, version_in, filled, serial_in, holds, usable, pending, frozen, restated}
-use Rattle.announcement_theory.specs.Next.{put, fill, advance, go_to, announce, goes, stepped, opens_on, stales, step_at, step, opens, publishes, closes, searches, looks, hands, again, next_or, version_had}
+use Rattle.announcement_theory.specs.Next.{put, fill, advance, go_to, announce, goes, stepped, opens_on, stales, step_at, step, opens, publishes, closes, searches, looks, looks_on, hands, hands_on, again, next_or, version_had}
 use Rattle.announcement_theory.specs.Views.{silent, holding, manner, fits, offerer, closer, ranged}
 use Rattle.announcement_theory.specs.Invariant.{Holds, Good}
 use Rattle.announcement_theory.proofs.Basics.{false_true, clash, mark_same, mark_flip, holding_plain, silent_empty, asks_help, asking_bound, at_same, at_other}
@@ -97,12 +97,12 @@ module _ (s : State) (g : Good s) (p : ℕ) (h : p < s.programs) where
       (seat_is s p (O6 n u Second) (announcement.Plain b.0) e b.1))
 
   -- labels of an offer
-  f1_step : (r : ℕ) (over : Mark) (i : ℕ) → position_at s p ≡ F1 r over i → (x : Slot) → slot_at s i ≡ x → Good (searches s p r over i x).after
-  f1_step r over i e slot.Empty f =
+  f1_step : (r : ℕ) (over : Mark) (i : ℕ) → position_at s p ≡ F1 r over i → (x : Option Stored) → slot_at s i ≡ x → Good (searches s p r over i x).after
+  f1_step r over i e None f =
       let a = plain_at (F1 r over i) e over refl in
-      told (fill s i (slot.Filled (V.serial + 1) r Usable)) (F2 r over i 0) (announcement.Plain over) a
+      told (fill s i (Some (stored (V.serial + 1) r Usable))) (F2 r over i 0) (announcement.Plain over) a
       (f1_put_good s g p h r over i (seat_is s p (F1 r over i) (announcement.Plain over) e a) f)
-  f1_step r over i e (slot.Filled n m st) f = go (ltb i (3 * s.programs)) refl
+  f1_step r over i e (Some y) f = go (ltb i (3 * s.programs)) refl
     where
       a : mine ≡ announcement.Plain over
       a = plain_at (F1 r over i) e over refl
@@ -133,7 +133,7 @@ module _ (s : State) (g : Good s) (p : ℕ) (h : p < s.programs) where
   c6_next_step v x e a false l = c6_last_good s g p h v x e a (ltb-false (x + 1) s.programs l)
 
   -- C3 and C7 at a slot
-  c3_step : (v : Mark) → position_at s p ≡ C3 v → (x : Slot) → slot_at s v.slot ≡ x → Good (looks s p v x).after
+  c3_step : (v : Mark) → position_at s p ≡ C3 v → (x : Option Stored) → slot_at s v.slot ≡ x → Good (looks s p v x).after
   c3_step v e x f = go x f
     where
       a : mine ≡ announcement.Empty
@@ -145,24 +145,27 @@ module _ (s : State) (g : Good s) (p : ℕ) (h : p < s.programs) where
       end : (Holds s v → pending (slot_at s v.slot) ≡ true) → Good (go_to s p Idle)
       end gone = told s Idle announcement.Empty a (c3_end_good s g p h v is gone)
 
-      go : (x : Slot) → slot_at s v.slot ≡ x → Good (looks s p v x).after
-      go slot.Empty f = end (λ t. false_true (sym (ap (holds v) f) ∙ t))
-      go (slot.Filled n r Usable) f = test (eqb n v.serial) refl
+      go_on : (n r : ℕ) (st : Status) → slot_at s v.slot ≡ Some (stored n r st) → Good (looks_on s p v n r st).after
+      go_on n r Usable f = test (eqb n v.serial) refl
         where
           test : (b : Bool) → eqb n v.serial ≡ b → Good
-              (cond b (goes (fill s v.slot (slot.Filled n r Pending)) p (C4 v 0)) (stepped (go_to s p Idle) Nothing)).after
-          test true c = told (fill s v.slot (slot.Filled n r Pending)) (C4 v 0) announcement.Empty a
+              (cond b (goes (fill s v.slot (Some (stored n r Pending))) p (C4 v 0)) (stepped (go_to s p Idle) Nothing)).after
+          test true c = told (fill s v.slot (Some (stored n r Pending))) (C4 v 0) announcement.Empty a
               (subst (λ y. Good (put (fill s v.slot y) p (seat (C4 v 0) announcement.Empty))) (ap (restated Pending) f)
               (c3_pend_good s g p h v is (ap (holds v) f ∙ c) (ap usable f)))
           test false c = end (λ t. clash (eqb n v.serial) (sym (ap (holds v) f) ∙ t) c)
-      go (slot.Filled n r Pending) f = end (λ t. ap pending f)
-      go (slot.Filled n r Frozen) f = test (eqb n v.serial) refl
+      go_on n r Pending f = end (λ t. ap pending f)
+      go_on n r Frozen f = test (eqb n v.serial) refl
         where
           test : (b : Bool) → eqb n v.serial ≡ b → Good (cond b (goes s p (C6 v 0)) (stepped (go_to s p Idle) Nothing)).after
           test true c = told s (C6 v 0) announcement.Empty a (c3_frozen_good s g p h v is (ap frozen f))
           test false c = end (λ t. clash (eqb n v.serial) (sym (ap (holds v) f) ∙ t) c)
 
-  c7_step : (v : Mark) → position_at s p ≡ C7 v → (x : Slot) → slot_at s v.slot ≡ x → Good (hands s p v x).after
+      go : (x : Option Stored) → slot_at s v.slot ≡ x → Good (looks s p v x).after
+      go None f = end (λ t. false_true (sym (ap (holds v) f) ∙ t))
+      go (Some x) f = go_on x.serial x.root x.status f
+
+  c7_step : (v : Mark) → position_at s p ≡ C7 v → (x : Option Stored) → slot_at s v.slot ≡ x → Good (hands s p v x).after
   c7_step v e x f = go x f
     where
       a : mine ≡ announcement.Empty
@@ -174,16 +177,19 @@ module _ (s : State) (g : Good s) (p : ℕ) (h : p < s.programs) where
       end : (Holds s v → frozen (slot_at s v.slot) ≡ false) → Good (go_to s p Idle)
       end gone = told s Idle announcement.Empty a (c7_end_good s g p h v is gone)
 
-      go : (x : Slot) → slot_at s v.slot ≡ x → Good (hands s p v x).after
-      go slot.Empty f = end (λ t. ap frozen f)
-      go (slot.Filled n r Usable) f = end (λ t. ap frozen f)
-      go (slot.Filled n r Pending) f = end (λ t. ap frozen f)
-      go (slot.Filled n r Frozen) f = test (eqb n v.serial) refl
+      go_on : (n r : ℕ) (st : Status) → slot_at s v.slot ≡ Some (stored n r st) → Good (hands_on s p v n st).after
+      go_on n r Usable f = end (λ t. ap frozen f)
+      go_on n r Pending f = end (λ t. ap frozen f)
+      go_on n r Frozen f = test (eqb n v.serial) refl
         where
           test : (b : Bool) → eqb n v.serial ≡ b → Good
-              (cond b (stepped (go_to (fill s v.slot slot.Empty) p Idle) (HandedOut v.serial)) (stepped (go_to s p Idle) Nothing)).after
-          test true c = told (fill s v.slot slot.Empty) Idle announcement.Empty a (c7_hand_good s g p h v is (ap (holds v) f ∙ c) (ap frozen f))
+              (cond b (stepped (go_to (fill s v.slot None) p Idle) (HandedOut v.serial)) (stepped (go_to s p Idle) Nothing)).after
+          test true c = told (fill s v.slot None) Idle announcement.Empty a (c7_hand_good s g p h v is (ap (holds v) f ∙ c) (ap frozen f))
           test false c = end (λ t. clash (eqb n v.serial) (sym (ap (holds v) f) ∙ t) c)
+
+      go : (x : Option Stored) → slot_at s v.slot ≡ x → Good (hands s p v x).after
+      go None f = end (λ t. ap frozen f)
+      go (Some x) f = go_on x.serial x.root x.status f
 
 -- F2 and C4 with another program's announcement made plain first: then that program is passed over
 module _ (s : State) (g : Good s) (p : ℕ) (h : p < s.programs) where
@@ -226,7 +232,7 @@ module _ (s : State) (g : Good s) (p : ℕ) (h : p < s.programs) where
           subst (λ y. Good (put s1 p (seat (next_or s.programs x (F2 r over i (x + 1)) (F3 r over i)) y))) (sym (ap (λ y. y.announced) same ∙ a))
           (f2_next_step s1 g1 p h r over i x (same ∙ is)
           (ap (λ y. flagged y.announced) (at_same s x new (omega (arith, g.sized.3, below_all)))) (ltb (x + 1) s.programs) refl)
-      go true false f c = told s g p h (fill s i slot.Empty) (Offered over) (announcement.Plain over) a
+      go true false f c = told s g p h (fill s i None) (Offered over) (announcement.Plain over) a
           (f2_stale_good s g p h r over i x is (mark_flip over s.current ∙ c))
       go false c f d = told s g p h s (next_or s.programs x (F2 r over i (x + 1)) (F3 r over i)) (announcement.Plain over) a
           (f2_next_step s g p h r over i x is f (ltb (x + 1) s.programs) refl)
@@ -302,7 +308,7 @@ module _ (s : State) (g : Good s) (p : ℕ) (h : p < s.programs) where
           (stales s p over i)).after
       go true c = told s g p h (advance s (mark (serial_in (slot_at s i)) i)) (Offered over) (announcement.Plain over) a
           (accept_good s g p h r over i is (mark_flip over s.current ∙ c))
-      go false c = told s g p h (fill s i slot.Empty) (Offered over) (announcement.Plain over) a
+      go false c = told s g p h (fill s i None) (Offered over) (announcement.Plain over) a
           (f3_stale_good s g p h r over i is (mark_flip over s.current ∙ c))
 
   c2_step : (v : Mark) → position_at s p ≡ C2 v → (b : Bool) → is_mark s.current v ≡ b → Good

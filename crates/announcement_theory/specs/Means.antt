@@ -5,8 +5,7 @@ use Rattle.keeper.specs.declared.stage.Stage.{Stage}
 use Rattle.keeper.specs.declared.stage.Stage.TheVariants as stage
 use Rattle.keeper.specs.Totals.{total}
 use Rattle.keeper.specs.Meaning.{Meaning, version}
-use Rattle.announcement_theory.specs.declared.slot.Slot.{Slot}
-use Rattle.announcement_theory.specs.declared.slot.Slot.TheVariants as slot
+use Rattle.announcement_theory.specs.declared.slot.Stored.{Stored}
 use Rattle.announcement_theory.specs.declared.announcement.Announcement.{Announcement}
 use Rattle.announcement_theory.specs.declared.announcement.Announcement.TheVariants as announcement
 use Rattle.announcement_theory.specs.declared.position.Round.{Round}
@@ -111,10 +110,10 @@ abbrev pub owners : State → ℕ → ℕ
 owners s j = total (λ (x : Seat). is_slot j (owned x.position)) s.seats
 
 -- the version in a slot, if no one owns it
-abbrev pub entry_in : Slot → Bool → Option Version
-entry_in slot.Empty free = None
-entry_in (slot.Filled n r st) true = Some (version n r)
-entry_in (slot.Filled n r st) false = None
+abbrev pub entry_in : Option Stored → Bool → Option Version
+entry_in None free = None
+entry_in (Some x) true = Some (version x.serial x.root)
+entry_in (Some x) false = None
 
 -- the version that slot j keeps: that of a program still offering is not kept
 abbrev pub entry_at : State → ℕ → Option Version

@@ -3,9 +3,9 @@ use Rattle.std.specs.Prelude.{ℕ, ◌+◌, ◌*◌, cond, Some, None, Option, �
 use Rattle.keeper.specs.declared.outcome.Outcome.{Outcome}
 use Rattle.keeper.specs.declared.outcome.Outcome.TheVariants.{GoesOn, Opened, Accepted, Stale, Nothing, HandedOut}
 use Rattle.announcement_theory.specs.declared.mark.Mark.{Mark}
+use Rattle.announcement_theory.specs.declared.slot.Status.{Status}
 use Rattle.announcement_theory.specs.declared.slot.Status.TheVariants.{Usable, Pending, Frozen}
-use Rattle.announcement_theory.specs.declared.slot.Slot.{Slot}
-use Rattle.announcement_theory.specs.declared.slot.Slot.TheVariants as slot
+use Rattle.announcement_theory.specs.declared.slot.Stored.{Stored}
 use Rattle.announcement_theory.specs.declared.announcement.Announcement.{Announcement}
 use Rattle.announcement_theory.specs.declared.announcement.Announcement.TheVariants as announcement
 use Rattle.announcement_theory.specs.declared.position.Round.{Round}
@@ -13,7 +13,7 @@ use Rattle.announcement_theory.specs.declared.position.Round.TheVariants.{First,
 use Rattle.announcement_theory.specs.declared.position.Position.{Position}
 use Rattle.announcement_theory.specs.declared.position.Position.TheVariants.{Idle, O1, O2, O3, O4, O5, O6, Open, F1, F2, F3, Offered, C1, C2, C3, C4, C5, C6, C7}
 use Rattle.announcement_theory.specs.declared.seat.Seat.{Seat}
-use Rattle.announcement_theory.specs.State.{State, mark, seat, slot_at, position_at, announced_at}
+use Rattle.announcement_theory.specs.State.{State, mark, seat, stored, slot_at, position_at, announced_at}
 use Rattle.announcement_theory.specs.Views.{about}
 use Rattle.announcement_theory.specs.Tests.{is_mark, asks, bears, flagged, version_in, serial_in, restated}
 
@@ -37,7 +37,7 @@ put s p x = record {
 }
 
 -- slot j becomes another
-abbrev pub fill : State → ℕ → Slot → State
+abbrev pub fill : State → ℕ → Option Stored → State
 fill s j x = record {
   programs = s.programs;
   last = s.last;
@@ -78,29 +78,37 @@ next_or programs x next last = cond (nat_lt (x + 1) programs) next last
 
 -- an offer gives up: its own slot i is emptied
 abbrev pub stales : State → ℕ → Mark → ℕ → Stepped
-stales s p over i = stepped (go_to (fill s i slot.Empty) p (Offered over)) Stale
+stales s p over i = stepped (go_to (fill s i None) p (Offered over)) Stale
 
 -- F1 at slot i, which holds the last argument
-abbrev pub searches : State → ℕ → ℕ → Mark → ℕ → Slot → Stepped
-searches s p r over i slot.Empty = goes (fill s i (slot.Filled (s.current.serial + 1) r Usable)) p (F2 r over i 0)
-searches s p r over i (slot.Filled n root st) =
+abbrev pub searches : State → ℕ → ℕ → Mark → ℕ → Option Stored → Stepped
+searches s p r over i None = goes (fill s i (Some (stored (s.current.serial + 1) r Usable))) p (F2 r over i 0)
+searches s p r over i (Some x) =
     cond (nat_lt i (3 * s.programs)) (goes s p (F1 r over (i + 1))) (stepped (go_to s p (Offered over)) Stale)
 
+-- C3 at the slot of v, which holds version n with root r, in the status of the last argument
+abbrev pub looks_on : State → ℕ → Mark → ℕ → ℕ → Status → Stepped
+looks_on s p v n r Usable =
+    cond (n == v.serial) (goes (fill s v.slot (Some (stored n r Pending))) p (C4 v 0)) (stepped (go_to s p Idle) Nothing)
+looks_on s p v n r Pending = stepped (go_to s p Idle) Nothing
+looks_on s p v n r Frozen = cond (n == v.serial) (goes s p (C6 v 0)) (stepped (go_to s p Idle) Nothing)
+
 -- C3 at the slot of v, which holds the last argument
-abbrev pub looks : State → ℕ → Mark → Slot → Stepped
-looks s p v slot.Empty = stepped (go_to s p Idle) Nothing
-looks s p v (slot.Filled n r Usable) =
-    cond (n == v.serial) (goes (fill s v.slot (slot.Filled n r Pending)) p (C4 v 0)) (stepped (go_to s p Idle) Nothing)
-looks s p v (slot.Filled n r Pending) = stepped (go_to s p Idle) Nothing
-looks s p v (slot.Filled n r Frozen) = cond (n == v.serial) (goes s p (C6 v 0)) (stepped (go_to s p Idle) Nothing)
+abbrev pub looks : State → ℕ → Mark → Option Stored → Stepped
+looks s p v None = stepped (go_to s p Idle) Nothing
+looks s p v (Some x) = looks_on s p v x.serial x.root x.status
+
+-- C7 at the slot of v, which holds version n in the status of the last argument
+abbrev pub hands_on : State → ℕ → Mark → ℕ → Status → Stepped
+hands_on s p v n Usable = stepped (go_to s p Idle) Nothing
+hands_on s p v n Pending = stepped (go_to s p Idle) Nothing
+hands_on s p v n Frozen =
+    cond (n == v.serial) (stepped (go_to (fill s v.slot None) p Idle) (HandedOut v.serial)) (stepped (go_to s p Idle) Nothing)
 
 -- C7 at the slot of v, which holds the last argument
-abbrev pub hands : State → ℕ → Mark → Slot → Stepped
-hands s p v slot.Empty = stepped (go_to s p Idle) Nothing
-hands s p v (slot.Filled n r Usable) = stepped (go_to s p Idle) Nothing
-hands s p v (slot.Filled n r Pending) = stepped (go_to s p Idle) Nothing
-hands s p v (slot.Filled n r Frozen) =
-    cond (n == v.serial) (stepped (go_to (fill s v.slot slot.Empty) p Idle) (HandedOut v.serial)) (stepped (go_to s p Idle) Nothing)
+abbrev pub hands : State → ℕ → Mark → Option Stored → Stepped
+hands s p v None = stepped (go_to s p Idle) Nothing
+hands s p v (Some x) = hands_on s p v x.serial x.status
 
 -- O6 when u is no longer current: a second round, and after that the end
 abbrev pub again : State → ℕ → ℕ → Mark → Round → Stepped

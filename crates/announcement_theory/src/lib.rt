@@ -19,4 +19,4 @@ pub use announcement::Announcement;
 pub use mark::Mark;
 pub use position::{Label, Position, Round};
 pub use seat::Seat;
-pub use slot::{Slot, Status};
+pub use slot::{Status, Stored};

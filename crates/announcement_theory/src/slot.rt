@@ -9,13 +9,10 @@ pub enum Status {
     Frozen,
 }
 
-// A slot is empty, or holds a version with its root.
+// What a slot that is not empty holds: a version's serial, its root, and how far it is on its way out.
 #[derive(Clone, Copy, PartialEq, Eq, Debug)]
-pub enum Slot {
-    Empty,
-    Filled {
-        serial: u32,
-        root: u32,
-        status: Status,
-    },
+pub struct Stored {
+    pub serial: u32,
+    pub root: u32,
+    pub status: Status,
 }

@@ -4,17 +4,17 @@ ghost use Rattle.announcement_theory.specs.Next.{put, fill, go_to, announce, adv
 ghost use Rattle.board.specs.Boards.{state_of};
 
 use crate::board::Board;
-use announcement_theory::{Announcement, Mark, Position, Seat, Slot};
+use announcement_theory::{Announcement, Mark, Position, Seat, Stored};
 
 impl Board {
     // What slot j holds; there is nothing beyond the last.
-    pub fn slot_at(&self, j: u32) -> Slot
+    pub fn slot_at(&self, j: u32) -> Option<Stored>
         ensures { result ≡ slot_at (state_of self.now) j }
     {
         if j <= 3 * self.programs {
             self.slots[j as usize]
         } else {
-            Slot::Empty
+            None
         }
     }
 
@@ -33,7 +33,7 @@ impl Board {
     }
 
     // Slot j becomes another.
-    pub(crate) fn fill(&mut self, j: u32, slot: Slot)
+    pub(crate) fn fill(&mut self, j: u32, slot: Option<Stored>)
         ensures { state_of self.new ≡ fill (state_of self.old) j slot }
     {
         if j <= 3 * self.programs {

@@ -1,6 +1,6 @@
 ghost use Rattle.std.specs.Prelude.{◌≤◌};
 
-use announcement_theory::{Mark, Seat, Slot};
+use announcement_theory::{Mark, Seat, Stored};
 
 // The plain state: of the slots the first 3 P + 1 count, of the seats the first P.
 #[derive(Clone, Copy)]
@@ -8,7 +8,7 @@ pub struct Board {
     pub programs: u32,
     pub last: u32,
     pub current: Mark,
-    pub slots: [Slot; 25],
+    pub slots: [Option<Stored>; 25],
     pub seats: [Seat; 8],
     ghost few: { programs ≤ 8 },
 }

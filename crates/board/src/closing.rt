@@ -1,8 +1,8 @@
 ghost use Rattle.std.specs.Prelude.{◌≡◌, ◌+◌};
 ghost use Rattle.keeper.specs.declared.outcome.Outcome.TheVariants.{HandedOut, Nothing};
-ghost use Rattle.announcement_theory.specs.declared.slot.Slot.TheVariants as slot;
 ghost use Rattle.announcement_theory.specs.declared.position.Position.TheVariants.{C4, C6, Idle};
 ghost use Rattle.announcement_theory.specs.declared.slot.Status.TheVariants.{Frozen, Pending};
+ghost use Rattle.announcement_theory.specs.State.{stored};
 ghost use Rattle.announcement_theory.specs.Tests.{restated};
 ghost use Rattle.announcement_theory.specs.Next.{fill, go_to, goes, step_at, stepped};
 ghost use Rattle.board.specs.Boards.{state_of};
@@ -10,7 +10,7 @@ ghost use Rattle.board.specs.Steps.{CloseTook, SlotTook, Took, closed_slot};
 
 use crate::board::Board;
 use crate::marks::{frozen, is_asking, is_bearing, is_same};
-use announcement_theory::{Announcement, Mark, Position, Slot, Status};
+use announcement_theory::{Announcement, Mark, Position, Status, Stored};
 use keeper::Outcome;
 
 // The slot of the version that a closing program is about.
@@ -35,9 +35,9 @@ impl Board {
 
     // The version is emptied out of its slot and handed out.
     fn hands_out(&mut self, p: u32, version: Mark) -> Outcome
-        ensures { Took (stepped (go_to (fill (state_of self.old) version.slot slot.Empty) p Idle) (HandedOut version.serial)) (state_of self.new) result }
+        ensures { Took (stepped (go_to (fill (state_of self.old) version.slot None) p Idle) (HandedOut version.serial)) (state_of self.new) result }
     {
-        self.fill(version.slot, Slot::Empty);
+        self.fill(version.slot, None);
         self.ends(p, Position::Idle, Outcome::HandedOut(version.serial))
     }
 
@@ -67,29 +67,35 @@ impl Board {
         match (position, slot) {
             (
                 Position::C3(v),
-                Slot::Filled {
-                    serial,
-                    root,
-                    status: Status::Usable,
-                },
+                Some(
+                    Stored {
+                        serial,
+                        root,
+                        status: Status::Usable,
+                    },
+                ),
             ) if serial == v.serial => self.pends(p, v, root),
             (
                 Position::C3(v),
-                Slot::Filled {
-                    serial,
-                    status: Status::Frozen,
-                    ..
-                },
+                Some(
+                    Stored {
+                        serial,
+                        status: Status::Frozen,
+                        ..
+                    },
+                ),
             ) if serial == v.serial => self.scans(p, v),
             (Position::C3(_), _) => self.leaves(p),
             (Position::C5(v), _) => self.freezes(p, v, slot),
             (
                 Position::C7(v),
-                Slot::Filled {
-                    serial,
-                    status: Status::Frozen,
-                    ..
-                },
+                Some(
+                    Stored {
+                        serial,
+                        status: Status::Frozen,
+                        ..
+                    },
+                ),
             ) if serial == v.serial => self.hands_out(p, v),
             (Position::C7(_), _) => self.leaves(p),
             (Position::Idle | Position::Open(_) | Position::Offered(_), _) => Outcome::GoesOn,
@@ -103,16 +109,16 @@ impl Board {
 
     // A usable slot becomes pending, and programs that announced its version are helped.
     fn pends(&mut self, p: u32, v: Mark, root: u32) -> Outcome
-        ensures { Took (goes (fill (state_of self.old) v.slot (slot.Filled v.serial root Pending)) p (C4 v 0)) (state_of self.new) result }
+        ensures { Took (goes (fill (state_of self.old) v.slot (Some (stored v.serial root Pending))) p (C4 v 0)) (state_of self.new) result }
     {
         let serial = v.serial;
         self.fill(
             v.slot,
-            Slot::Filled {
+            Some(Stored {
                 serial,
                 root,
                 status: Status::Pending,
-            },
+            }),
         );
         self.goes(
             p,
@@ -137,7 +143,7 @@ impl Board {
     }
 
     // The slot is frozen, and programs are looked for that have its version.
-    fn freezes(&mut self, p: u32, v: Mark, held: Slot) -> Outcome
+    fn freezes(&mut self, p: u32, v: Mark, held: Option<Stored>) -> Outcome
         ensures { Took (goes (fill (state_of self.old) v.slot (restated Frozen held)) p (C6 v 0)) (state_of self.new) result }
     {
         self.fill(v.slot, frozen(held));

@@ -2,7 +2,7 @@ ghost use Rattle.std.specs.Prelude.{◌≡◌};
 ghost use Rattle.announcement_theory.specs.Tests.{is_mark, asks, bears, flagged, version_in, serial_in, restated};
 ghost use Rattle.announcement_theory.specs.declared.slot.Status.TheVariants.{Frozen};
 
-use announcement_theory::{Announcement, Mark, Slot, Status};
+use announcement_theory::{Announcement, Mark, Status, Stored};
 
 // Whether the two are one version.
 pub(crate) fn is_same(v: Mark, w: Mark) -> bool
@@ -56,25 +56,18 @@ pub(crate) fn is_flagged(announced: Announcement) -> bool
 }
 
 // The serial in a slot, 0 in an empty one.
-pub(crate) fn serial_in(slot: Slot) -> u32
+pub(crate) fn serial_in(slot: Option<Stored>) -> u32
     ensures { result ≡ serial_in slot }
 {
-    match slot {
-        Slot::Empty => 0,
-        Slot::Filled { serial, .. } => serial,
-    }
+    slot.map_or(0, |stored| stored.serial)
 }
 
 // The slot, frozen.
-pub(crate) fn frozen(slot: Slot) -> Slot
+pub(crate) fn frozen(slot: Option<Stored>) -> Option<Stored>
     ensures { result ≡ restated Frozen slot }
 {
-    match slot {
-        Slot::Empty => Slot::Empty,
-        Slot::Filled { serial, root, .. } => Slot::Filled {
-            serial,
-            root,
-            status: Status::Frozen,
-        },
-    }
+    slot.map(|stored| Stored {
+        status: Status::Frozen,
+        ..stored
+    })
 }

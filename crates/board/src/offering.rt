@@ -6,7 +6,7 @@ ghost use Rattle.board.specs.Steps.{OfferTook, Took, accepts};
 
 use crate::board::Board;
 use crate::marks::{is_flagged, is_same, serial_in};
-use announcement_theory::{Announcement, Mark, Position, Slot, Status};
+use announcement_theory::{Announcement, Mark, Position, Status, Stored};
 use keeper::Outcome;
 
 impl Board {
@@ -22,7 +22,7 @@ impl Board {
     fn gives_up(&mut self, p: u32, over: Mark, slot: u32) -> Outcome
         ensures { Took (stales (state_of self.old) p over slot) (state_of self.new) result }
     {
-        self.fill(slot, Slot::Empty);
+        self.fill(slot, None);
         self.ends(p, Position::Offered(over), Outcome::Stale)
     }
 
@@ -59,14 +59,14 @@ impl Board {
     {
         let serial = self.current.serial + 1;
         match self.slot_at(slot) {
-            Slot::Empty => {
+            None => {
                 self.fill(
                     slot,
-                    Slot::Filled {
+                    Some(Stored {
                         serial,
                         root,
                         status: Status::Usable,
-                    },
+                    }),
                 );
                 self.goes(
                     p,
@@ -78,7 +78,7 @@ impl Board {
                     },
                 )
             }
-            Slot::Filled { .. } if slot < 3 * self.programs => self.goes(
+            Some(_) if slot < 3 * self.programs => self.goes(
                 p,
                 Position::F1 {
                     root,
@@ -86,7 +86,7 @@ impl Board {
                     slot: slot + 1,
                 },
             ),
-            Slot::Filled { .. } => self.ends(p, Position::Offered(over), Outcome::Stale),
+            Some(_) => self.ends(p, Position::Offered(over), Outcome::Stale),
         }
     }
 
