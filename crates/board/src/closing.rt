@@ -9,7 +9,7 @@ ghost use Rattle.board.specs.Boards.{state_of};
 ghost use Rattle.board.specs.Steps.{CloseTook, SlotTook, Took, closed_slot};
 
 use crate::board::Board;
-use crate::marks::{frozen, is_asking, is_bearing, is_same};
+use crate::marks::frozen;
 use announcement_theory::{Announcement, Mark, Position, Status, Stored};
 use keeper::Outcome;
 
@@ -47,7 +47,7 @@ impl Board {
     {
         match position {
             Position::C1(v) => self.goes_announcing(p, Position::C2(v), Announcement::Empty),
-            Position::C2(v) if is_same(self.current, v) => self.leaves(p),
+            Position::C2(v) if self.current == v => self.leaves(p),
             Position::C2(v) => self.goes(p, Position::C3(v)),
             Position::C3(_) | Position::C5(_) | Position::C7(_) => self.slot_step(p, position),
             Position::C4 { version, program } => self.bind_step(p, version, program),
@@ -161,7 +161,7 @@ impl Board {
             },
             _ => Position::C5(version),
         };
-        if is_asking(version, self.seat_at(program).announced) {
+        if self.seat_at(program).announced == Announcement::Help(version) {
             self.announce(program, Announcement::Plain(version));
         }
         self.goes(p, position)
@@ -171,7 +171,7 @@ impl Board {
     fn scan_step(&mut self, p: u32, version: Mark, program: u32) -> Outcome
         ensures { Took (step_at (state_of self.old) p (C6 version program)) (state_of self.new) result }
     {
-        if is_bearing(version, self.seat_at(program).announced) {
+        if self.seat_at(program).announced == Announcement::Plain(version) {
             return self.leaves(p);
         }
         match program {

@@ -5,7 +5,7 @@ ghost use Rattle.board.specs.Boards.{state_of};
 ghost use Rattle.board.specs.Steps.{OfferTook, Took, accepts};
 
 use crate::board::Board;
-use crate::marks::{is_flagged, is_same, serial_in};
+use crate::marks::serial_in;
 use announcement_theory::{Announcement, Mark, Position, Status, Stored};
 use keeper::Outcome;
 
@@ -39,9 +39,7 @@ impl Board {
                 slot,
                 program,
             } => self.help_step(p, root, over, slot, program),
-            Position::F3 { over, slot, .. } if is_same(self.current, over) => self.accepts(
-                p, over, slot,
-            ),
+            Position::F3 { over, slot, .. } if self.current == over => self.accepts(p, over, slot),
             Position::F3 { over, slot, .. } => self.gives_up(p, over, slot),
             Position::Idle | Position::Open(_) | Position::Offered(_) => Outcome::GoesOn,
             Position::O1 { .. } | Position::O2 { .. } | Position::O3 { .. } => Outcome::GoesOn,
@@ -110,10 +108,10 @@ impl Board {
         ensures { Took (step_at (state_of self.old) p (F2 root over slot program)) (state_of self.new) result }
     {
         let position = self.after_help(root, over, slot, program);
-        if !is_flagged(self.seat_at(program).announced) {
+        if !matches!(self.seat_at(program).announced, Announcement::Help(_)) {
             return self.goes(p, position);
         }
-        if !is_same(self.current, over) {
+        if self.current != over {
             return self.gives_up(p, over, slot);
         }
         self.announce(program, Announcement::Plain(over));

@@ -7,7 +7,7 @@ ghost use Rattle.board.specs.Boards.{state_of};
 ghost use Rattle.board.specs.Steps.{OpenTook, RetryTook, Took};
 
 use crate::board::Board;
-use crate::marks::{is_asking, is_same, version_in};
+use crate::marks::version_in;
 use announcement_theory::{Announcement, Mark, Position, Round, Seat};
 use keeper::Outcome;
 
@@ -67,12 +67,12 @@ impl Board {
                 Position::O2 { since, u },
                 Announcement::Help(u),
             ),
-            Position::O2 { since, u } if is_same(self.current, u) => self.goes(
+            Position::O2 { since, u } if self.current == u => self.goes(
                 p,
                 Position::O3 { since, u },
             ),
             Position::O2 { since, u } => self.goes(p, Position::O4 { since, u, round }),
-            Position::O3 { u, .. } if is_asking(u, announced) => self.opens_on(
+            Position::O3 { u, .. } if announced == Announcement::Help(u) => self.opens_on(
                 p,
                 Announcement::Plain(u),
             ),
@@ -96,7 +96,7 @@ impl Board {
         let w = self.current;
         match position {
             Position::O4 { since, u, round } => self.goes(p, Position::O5 { since, u, w, round }),
-            Position::O5 { since, u, w, round } if is_asking(u, announced) => {
+            Position::O5 { since, u, w, round } if announced == Announcement::Help(u) => {
                 self.goes_announcing(
                     p,
                     Position::O6 { since, u: w, round },
@@ -104,10 +104,7 @@ impl Board {
                 )
             }
             Position::O5 { .. } => self.opens_on(p, announced),
-            Position::O6 { since, u, .. } if is_same(w, u) => self.goes(
-                p,
-                Position::O3 { since, u },
-            ),
+            Position::O6 { since, u, .. } if w == u => self.goes(p, Position::O3 { since, u }),
             Position::O6 {
                 since,
                 u,
