@@ -7,7 +7,7 @@ ghost use Rattle.announcement.specs.Model.{state_in, Made};
 
 use crate::stages::stage_in;
 use crate::state::Announcing;
-use announcement_theory::{Announcement, Mark, Position, Seat, Status, Stored};
+use announcement_theory::{Mark, Seat, Status, Stored};
 use board::Board;
 use keeper::{Fault, Outcome, Refusal, Stage, check_limits, refused};
 
@@ -17,10 +17,6 @@ impl Announcing {
         ensures { Made programs last result }
     {
         check_limits(programs, last)?;
-        let idle = Seat {
-            position: Position::Idle,
-            announced: Announcement::Empty,
-        };
         let mut slots = [None; 25];
         slots[0] = Some(Stored {
             serial: 0,
@@ -32,7 +28,7 @@ impl Announcing {
             last,
             current: Mark { serial: 0, slot: 0 },
             slots,
-            seats: [idle; 8],
+            seats: [Seat::IDLE; 8],
         };
         Ok(Announcing { board })
     }

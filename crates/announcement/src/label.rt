@@ -8,7 +8,7 @@ use announcement_theory::{Label, Position};
 use keeper::Fault;
 
 // The label of an operation under way.
-fn label_of(position: Position) -> Option<Label>
+pub(crate) fn label_of(position: Position) -> Option<Label>
     ensures { result ≡ label_of position }
 {
     match position {

@@ -9,9 +9,8 @@ fn bound_to(announced: Announcement) -> Option<u32>
     ensures { result ≡ bound announced }
 {
     match announced {
-        Announcement::Empty => None,
         Announcement::Plain(version) => Some(version.serial),
-        Announcement::Help(_) => None,
+        Announcement::Empty | Announcement::Help(_) => None,
     }
 }
 

@@ -6,9 +6,7 @@
 mod announcement;
 // A version as this keeper names it.
 mod mark;
-// How a label is written.
-mod names;
-// Where a program stands.
+// Where a program stands, and the labels.
 mod position;
 // A program's place: its position and its announcement.
 mod seat;

@@ -1,4 +1,5 @@
 use crate::mark::Mark;
+use std::fmt;
 
 // Which round of an open it is: there are at most two.
 #[derive(Clone, Copy, PartialEq, Eq, Debug)]
@@ -111,4 +112,11 @@ pub enum Label {
     C5,
     C6,
     C7,
+}
+
+// A label is written by its name.
+impl fmt::Display for Label {
+    fn fmt<W: fmt::Write>(&self, f: &mut fmt::Formatter<W>) -> fmt::Result {
+        write!(f, "{self:?}")
+    }
 }
