@@ -52,10 +52,7 @@ impl Board {
             Position::C3(_) | Position::C5(_) | Position::C7(_) => self.slot_step(p, position),
             Position::C4 { version, program } => self.bind_step(p, version, program),
             Position::C6 { version, program } => self.scan_step(p, version, program),
-            Position::Idle | Position::Open(_) | Position::Offered(_) => Outcome::GoesOn,
-            Position::O1 { .. } | Position::O2 { .. } | Position::O3 { .. } => Outcome::GoesOn,
-            Position::O4 { .. } | Position::O5 { .. } | Position::O6 { .. } => Outcome::GoesOn,
-            Position::F1 { .. } | Position::F2 { .. } | Position::F3 { .. } => Outcome::GoesOn,
+            _ => Outcome::GoesOn,
         }
     }
 
@@ -98,12 +95,7 @@ impl Board {
                 ),
             ) if serial == v.serial => self.hands_out(p, v),
             (Position::C7(_), _) => self.leaves(p),
-            (Position::Idle | Position::Open(_) | Position::Offered(_), _) => Outcome::GoesOn,
-            (Position::O1 { .. } | Position::O2 { .. } | Position::O3 { .. }, _) => Outcome::GoesOn,
-            (Position::O4 { .. } | Position::O5 { .. } | Position::O6 { .. }, _) => Outcome::GoesOn,
-            (Position::F1 { .. } | Position::F2 { .. } | Position::F3 { .. }, _) => Outcome::GoesOn,
-            (Position::C1(_) | Position::C2(_), _) => Outcome::GoesOn,
-            (Position::C4 { .. } | Position::C6 { .. }, _) => Outcome::GoesOn,
+            _ => Outcome::GoesOn,
         }
     }
 

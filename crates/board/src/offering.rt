@@ -41,12 +41,7 @@ impl Board {
             } => self.help_step(p, root, over, slot, program),
             Position::F3 { over, slot, .. } if self.current == over => self.accepts(p, over, slot),
             Position::F3 { over, slot, .. } => self.gives_up(p, over, slot),
-            Position::Idle | Position::Open(_) | Position::Offered(_) => Outcome::GoesOn,
-            Position::O1 { .. } | Position::O2 { .. } | Position::O3 { .. } => Outcome::GoesOn,
-            Position::O4 { .. } | Position::O5 { .. } | Position::O6 { .. } => Outcome::GoesOn,
-            Position::C1(_) | Position::C2(_) | Position::C3(_) | Position::C4 { .. } =>
-                Outcome::GoesOn,
-            Position::C5(_) | Position::C6 { .. } | Position::C7(_) => Outcome::GoesOn,
+            _ => Outcome::GoesOn,
         }
     }
 

@@ -80,11 +80,7 @@ impl Board {
             Position::O4 { .. } | Position::O5 { .. } | Position::O6 { .. } => self.retry_step(
                 p, position,
             ),
-            Position::Idle | Position::Open(_) | Position::Offered(_) => Outcome::GoesOn,
-            Position::F1 { .. } | Position::F2 { .. } | Position::F3 { .. } => Outcome::GoesOn,
-            Position::C1(_) | Position::C2(_) | Position::C3(_) => Outcome::GoesOn,
-            Position::C4 { .. } | Position::C5(_) => Outcome::GoesOn,
-            Position::C6 { .. } | Position::C7(_) => Outcome::GoesOn,
+            _ => Outcome::GoesOn,
         }
     }
 
@@ -114,12 +110,7 @@ impl Board {
                 round: Round::Second,
                 ..
             } => self.opens_on(p, announced),
-            Position::Idle | Position::Open(_) | Position::Offered(_) => Outcome::GoesOn,
-            Position::O1 { .. } | Position::O2 { .. } | Position::O3 { .. } => Outcome::GoesOn,
-            Position::F1 { .. } | Position::F2 { .. } | Position::F3 { .. } => Outcome::GoesOn,
-            Position::C1(_) | Position::C2(_) | Position::C3(_) => Outcome::GoesOn,
-            Position::C4 { .. } | Position::C5(_) => Outcome::GoesOn,
-            Position::C6 { .. } | Position::C7(_) => Outcome::GoesOn,
+            _ => Outcome::GoesOn,
         }
     }
 
