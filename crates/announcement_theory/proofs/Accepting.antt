@@ -4,7 +4,8 @@ use Rattle.std.proofs.lemmas.Bool.{cases_eq, cases_Bool, or_left, leb-true}
 use Rattle.announcement_theory.specs.declared.mark.Mark.{Mark}
 use Rattle.announcement_theory.specs.declared.announcement.Announcement.TheVariants as announcement
 use Rattle.announcement_theory.specs.declared.position.Round.TheVariants.{First, Second}
-use Rattle.announcement_theory.specs.declared.position.Position.TheVariants.{F3, Offered}
+use Rattle.announcement_theory.specs.declared.position.Position.TheVariants.{Offering, Offered}
+use Rattle.announcement_theory.specs.declared.position.OfferLabel.TheVariants.{F3}
 use Rattle.announcement_theory.specs.declared.seat.Seat.{Seat}
 use Rattle.announcement_theory.specs.State.{State, mark, seat, slot_at, seat_at, position_at, announced_at}
 use Rattle.announcement_theory.specs.Tests.{is_mark, serial_in, pending}
@@ -27,10 +28,10 @@ settled_steady c d (found w First) e = refl
 settled_steady c d (found w Second) e = false_true e
 
 module _ (s : State) (g : Good s) (p : ℕ) (h : p < s.programs) (r : ℕ) (over : Mark) (i : ℕ)
-    (was : seat_at s p ≡ seat (F3 r over i) (announcement.Plain over))
+    (was : seat_at s p ≡ seat (Offering r over i F3) (announcement.Plain over))
     (current : is_mark over s.current ≡ true) where
   abbrev old : Seat
-  old = seat (F3 r over i) (announcement.Plain over)
+  old = seat (Offering r over i F3) (announcement.Plain over)
 
   abbrev new : Seat
   new = seat (Offered over) (announcement.Plain over)

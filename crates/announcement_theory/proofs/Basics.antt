@@ -10,7 +10,10 @@ use Rattle.announcement_theory.specs.declared.slot.Stored.{Stored}
 use Rattle.announcement_theory.specs.declared.announcement.Announcement.{Announcement}
 use Rattle.announcement_theory.specs.declared.announcement.Announcement.TheVariants as announcement
 use Rattle.announcement_theory.specs.declared.position.Position.{Position}
-use Rattle.announcement_theory.specs.declared.position.Position.TheVariants.{Idle, O1, O2, O3, O4, O5, O6, Open, F1, F2, F3, Offered, C1, C2, C3, C4, C5, C6, C7}
+use Rattle.announcement_theory.specs.declared.position.Position.TheVariants.{Idle, Opening, Open, Offering, Offered, Closing}
+use Rattle.announcement_theory.specs.declared.position.OpenLabel.TheVariants.{O1, O2, O3, O4, O5, O6}
+use Rattle.announcement_theory.specs.declared.position.OfferLabel.TheVariants.{F1, F2, F3}
+use Rattle.announcement_theory.specs.declared.position.CloseLabel.TheVariants.{C1, C2, C3, C4, C5, C6, C7}
 use Rattle.announcement_theory.specs.declared.seat.Seat.{Seat}
 use Rattle.announcement_theory.specs.State.{State, mark, unseated, seat_at}
 use Rattle.announcement_theory.specs.Tests.{is_mark, asks, bears, filled, serial_in, holds, is_usable, is_pending, is_frozen, usable, pending, frozen}
@@ -91,24 +94,24 @@ pending_frozen (Some x) e = only_pending x.status e
 -- the slot of an owner, whatever number of programs it counts with
 pub owned_is : (all : ℕ) (at : Position) → owned_in (offerer all at) ≡ owned at
 owned_is all Idle = refl
-owned_is all (O1 since u) = refl
-owned_is all (O2 since u) = refl
-owned_is all (O3 since u) = refl
-owned_is all (O4 since u round) = refl
-owned_is all (O5 since u w round) = refl
-owned_is all (O6 since u round) = refl
+owned_is all (Opening since u O1) = refl
+owned_is all (Opening since u O2) = refl
+owned_is all (Opening since u O3) = refl
+owned_is all (Opening since u (O4 round)) = refl
+owned_is all (Opening since u (O5 w round)) = refl
+owned_is all (Opening since u (O6 round)) = refl
 owned_is all (Open v) = refl
-owned_is all (F1 r over i) = refl
-owned_is all (F2 r over i x) = refl
-owned_is all (F3 r over i) = refl
+owned_is all (Offering r over i F1) = refl
+owned_is all (Offering r over i (F2 x)) = refl
+owned_is all (Offering r over i F3) = refl
 owned_is all (Offered v) = refl
-owned_is all (C1 v) = refl
-owned_is all (C2 v) = refl
-owned_is all (C3 v) = refl
-owned_is all (C4 v x) = refl
-owned_is all (C5 v) = refl
-owned_is all (C6 v x) = refl
-owned_is all (C7 v) = refl
+owned_is all (Closing v C1) = refl
+owned_is all (Closing v C2) = refl
+owned_is all (Closing v C3) = refl
+owned_is all (Closing v (C4 x)) = refl
+owned_is all (Closing v C5) = refl
+owned_is all (Closing v (C6 x)) = refl
+owned_is all (Closing v C7) = refl
 
 pub owner_owns : (all : ℕ) (at : Position) (r : ℕ) (over : Mark) (i f : ℕ) → offerer all at ≡ owns r over i f → owned at ≡ Some i
 owner_owns all at r over i f e = sym (owned_is all at) ∙ ap owned_in e

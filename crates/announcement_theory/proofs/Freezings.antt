@@ -9,7 +9,8 @@ use Rattle.announcement_theory.specs.declared.slot.Stored.{Stored}
 use Rattle.announcement_theory.specs.declared.announcement.Announcement.{Announcement}
 use Rattle.announcement_theory.specs.declared.announcement.Announcement.TheVariants as announcement
 use Rattle.announcement_theory.specs.declared.position.Position.{Position}
-use Rattle.announcement_theory.specs.declared.position.Position.TheVariants.{Idle, C3, C4, C5, C6, C7}
+use Rattle.announcement_theory.specs.declared.position.Position.TheVariants.{Idle, Closing}
+use Rattle.announcement_theory.specs.declared.position.CloseLabel.TheVariants.{C3, C4, C5, C6, C7}
 use Rattle.announcement_theory.specs.declared.seat.Seat.{Seat}
 use Rattle.announcement_theory.specs.State.{State, mark, seat, slot_at, seat_at, position_at, announced_at}
 use Rattle.announcement_theory.specs.Tests.{is_mark, filled, serial_in, holds, usable, pending, frozen, restated}
@@ -153,10 +154,10 @@ module _ (s : State) (g : Good s) (p : ℕ) (h : p < s.programs) (v : Mark) (sta
       kept_from a x = (sym (same_filled a) ∙ x.0, x.1, λ e. none_some a (sym free ∙ e))
 
 -- C3: the slot of v was usable
-module _ (s : State) (g : Good s) (p : ℕ) (h : p < s.programs) (v : Mark) (was : seat_at s p ≡ seat (C3 v) announcement.Empty) (stands : Holds s v)
+module _ (s : State) (g : Good s) (p : ℕ) (h : p < s.programs) (v : Mark) (was : seat_at s p ≡ seat (Closing v C3) announcement.Empty) (stands : Holds s v)
     (fine : usable (slot_at s v.slot) ≡ true) where
-  pub c3_pend_good : Good (put (fill s v.slot (restated Pending (slot_at s v.slot))) p (seat (C4 v 0) announcement.Empty))
-  c3_pend_good = restated_good s g p h v stands Pending (C3 v) (C4 v 0) was (record {
+  pub c3_pend_good : Good (put (fill s v.slot (restated Pending (slot_at s v.slot))) p (seat (Closing v (C4 0)) announcement.Empty))
+  c3_pend_good = restated_good s g p h v stands Pending (Closing v C3) (Closing v (C4 0)) was (record {
     fresh = λ q z ne zn w e m o t. g.fresh q z w m (o ∙ ap {B = Option ℕ} Some (sym e)) (from_here w e t);
     current = λ e. absurd (clash (is_mark v V)
         (same_mark v V (one_slot s v V stands (serial_holds V (slot_at s V.slot) (usable_filled (slot_at s V.slot) g.current.1)
@@ -189,26 +190,26 @@ module _ (s : State) (g : Good s) (p : ℕ) (h : p < s.programs) (v : Mark) (was
       V : Mark
       V = s.current
 
-      fit : Fits s p (seat (C3 v) announcement.Empty)
-      fit = stay s g p h (seat (C3 v) announcement.Empty) was
+      fit : Fits s p (seat (Closing v C3) announcement.Empty)
+      fit = stay s g p h (seat (Closing v C3) announcement.Empty) was
 
       now : slot_at (fill s v.slot (restated Pending x)) v.slot ≡ restated Pending x
       now = slot_same s v.slot (restated Pending x) (holds_in_range s v stands)
 
       to_here : (w : Mark) → w.slot ≡ v.slot → Holds s w → holds w (restated Pending x) ≡ true
-      to_here w e t = still s g p h v stands Pending (C3 v) (C4 v 0) was w e t
+      to_here w e t = still s g p h v stands Pending (Closing v C3) (Closing v (C4 0)) was w e t
 
       from_here : (w : Mark) → w.slot ≡ v.slot → holds w (restated Pending x) ≡ true → Holds s w
-      from_here w e t = back s g p h v stands Pending (C3 v) (C4 v 0) was w e t
+      from_here w e t = back s g p h v stands Pending (Closing v C3) (Closing v (C4 0)) was w e t
 
       waiting : (b m : Bool) → b ≡ true → m ≡ true → cond b m (false || false) ≡ true
       waiting true m e f = f
       waiting false m e f = e
 
 -- C5: the slot of v, which is pending, becomes frozen
-module _ (s : State) (g : Good s) (p : ℕ) (h : p < s.programs) (v : Mark) (was : seat_at s p ≡ seat (C5 v) announcement.Empty) where
-  pub c5_good : Good (put (fill s v.slot (restated Frozen (slot_at s v.slot))) p (seat (C6 v 0) announcement.Empty))
-  c5_good = restated_good s g p h v stands Frozen (C5 v) (C6 v 0) was (record {
+module _ (s : State) (g : Good s) (p : ℕ) (h : p < s.programs) (v : Mark) (was : seat_at s p ≡ seat (Closing v C5) announcement.Empty) where
+  pub c5_good : Good (put (fill s v.slot (restated Frozen (slot_at s v.slot))) p (seat (Closing v (C6 0)) announcement.Empty))
+  c5_good = restated_good s g p h v stands Frozen (Closing v C5) (Closing v (C6 0)) was (record {
     fresh = λ q z ne zn w e m o t. g.fresh q z w m (o ∙ ap {B = Option ℕ} Some (sym e)) (from_here w e t);
     current = λ e. clash (pending x) pend (usable_pending x (subst (λ n. usable (slot_at s n) ≡ true) e g.current.1));
     own = λ z ne r o f e. clash (pending x) pend (usable_pending x (g.own z r o v.slot f e).0);
@@ -238,8 +239,8 @@ module _ (s : State) (g : Good s) (p : ℕ) (h : p < s.programs) (v : Mark) (was
       x : Option Stored
       x = slot_at s v.slot
 
-      fit : Fits s p (seat (C5 v) announcement.Empty)
-      fit = stay s g p h (seat (C5 v) announcement.Empty) was
+      fit : Fits s p (seat (Closing v C5) announcement.Empty)
+      fit = stay s g p h (seat (Closing v C5) announcement.Empty) was
 
       stands : Holds s v
       stands = fit.closes.stands
@@ -251,17 +252,17 @@ module _ (s : State) (g : Good s) (p : ℕ) (h : p < s.programs) (v : Mark) (was
       now = slot_same s v.slot (restated Frozen x) (holds_in_range s v stands)
 
       to_here : (w : Mark) → w.slot ≡ v.slot → Holds s w → holds w (restated Frozen x) ≡ true
-      to_here w e t = still s g p h v stands Frozen (C5 v) (C6 v 0) was w e t
+      to_here w e t = still s g p h v stands Frozen (Closing v C5) (Closing v (C6 0)) was w e t
 
       from_here : (w : Mark) → w.slot ≡ v.slot → holds w (restated Frozen x) ≡ true → Holds s w
-      from_here w e t = back s g p h v stands Frozen (C5 v) (C6 v 0) was w e t
+      from_here w e t = back s g p h v stands Frozen (Closing v C5) (Closing v (C6 0)) was w e t
 
       pended_on : (b m : Bool) → cond b m (false || false) ≡ true → m ≡ true
       pended_on true m e = e
       pended_on false m e = false_true e
 
 -- C7: the slot of v, which is frozen, is emptied
-module _ (s : State) (g : Good s) (p : ℕ) (h : p < s.programs) (v : Mark) (was : seat_at s p ≡ seat (C7 v) announcement.Empty) (stands : Holds s v)
+module _ (s : State) (g : Good s) (p : ℕ) (h : p < s.programs) (v : Mark) (was : seat_at s p ≡ seat (Closing v C7) announcement.Empty) (stands : Holds s v)
     (icy : frozen (slot_at s v.slot) ≡ true) where
   pub c7_hand_good : Good (put (fill s v.slot None) p (seat Idle announcement.Empty))
   c7_hand_good = put_good after p new (written s v.slot None in_slots g p (record {
@@ -308,13 +309,13 @@ module _ (s : State) (g : Good s) (p : ℕ) (h : p < s.programs) (v : Mark) (was
       after = fill s v.slot None
 
       old : Seat
-      old = seat (C7 v) announcement.Empty
+      old = seat (Closing v C7) announcement.Empty
 
       new : Seat
       new = seat Idle announcement.Empty
 
-      fit : Fits s p (seat (C7 v) announcement.Empty)
-      fit = stay s g p h (seat (C7 v) announcement.Empty) was
+      fit : Fits s p (seat (Closing v C7) announcement.Empty)
+      fit = stay s g p h (seat (Closing v C7) announcement.Empty) was
 
       in_slots : v.slot < length s.slots
       in_slots = holds_in_range s v stands

@@ -5,7 +5,9 @@ use Rattle.announcement_theory.specs.declared.mark.Mark.{Mark}
 use Rattle.announcement_theory.specs.declared.slot.Status.{Status}
 use Rattle.announcement_theory.specs.declared.slot.Stored.{Stored}
 use Rattle.announcement_theory.specs.declared.announcement.Announcement.TheVariants as announcement
-use Rattle.announcement_theory.specs.declared.position.Position.TheVariants.{Idle, F3, Offered, C7}
+use Rattle.announcement_theory.specs.declared.position.Position.TheVariants.{Idle, Offering, Offered, Closing}
+use Rattle.announcement_theory.specs.declared.position.OfferLabel.TheVariants.{F3}
+use Rattle.announcement_theory.specs.declared.position.CloseLabel.TheVariants.{C7}
 use Rattle.announcement_theory.specs.declared.seat.Seat.{Seat}
 use Rattle.announcement_theory.specs.State.{State, mark, seat, slot_at, seat_at, position_at, announced_at}
 use Rattle.announcement_theory.specs.Tests.{is_mark, serial_in, root_in, usable, frozen, restated}
@@ -101,7 +103,7 @@ restates s g p h j st x in_slots free = record {
 
 -- an accepted offer
 module _ (s : State) (g : Good s) (p : ℕ) (h : p < s.programs) (r : ℕ) (over : Mark) (i : ℕ)
-    (was : seat_at s p ≡ seat (F3 r over i) (announcement.Plain over))
+    (was : seat_at s p ≡ seat (Offering r over i F3) (announcement.Plain over))
     (current : is_mark over s.current ≡ true) where
   pub accepts : StepDone (meaning_of s) p (meaning_of
       (put (advance s (mark (serial_in (slot_at s i)) i)) p (seat (Offered over) (announcement.Plain over)))) (Accepted (serial_in (slot_at s i)))
@@ -127,7 +129,7 @@ module _ (s : State) (g : Good s) (p : ℕ) (h : p < s.programs) (r : ℕ) (over
       t = advance s (mark (serial_in (slot_at s i)) i)
 
       old : Seat
-      old = seat (F3 r over i) (announcement.Plain over)
+      old = seat (Offering r over i F3) (announcement.Plain over)
 
       x : Seat
       x = seat (Offered over) (announcement.Plain over)
@@ -148,7 +150,7 @@ module _ (s : State) (g : Good s) (p : ℕ) (h : p < s.programs) (r : ℕ) (over
       root_is = (g.own p r over i s.programs (ap (λ y. offerer s.programs y.position) was)).1
 
 -- a version is handed out
-module _ (s : State) (g : Good s) (p : ℕ) (h : p < s.programs) (v : Mark) (was : seat_at s p ≡ seat (C7 v) announcement.Empty) (stands : Holds s v)
+module _ (s : State) (g : Good s) (p : ℕ) (h : p < s.programs) (v : Mark) (was : seat_at s p ≡ seat (Closing v C7) announcement.Empty) (stands : Holds s v)
     (icy : frozen (slot_at s v.slot) ≡ true) where
   pub hands_out : StepDone (meaning_of s) p (meaning_of (put (fill s v.slot None) p (seat Idle announcement.Empty))) (HandedOut v.serial)
   hands_out = (
@@ -175,7 +177,7 @@ module _ (s : State) (g : Good s) (p : ℕ) (h : p < s.programs) (v : Mark) (was
       t = fill s v.slot None
 
       old : Seat
-      old = seat (C7 v) announcement.Empty
+      old = seat (Closing v C7) announcement.Empty
 
       x : Seat
       x = seat Idle announcement.Empty

@@ -1,29 +1,18 @@
-ghost use Rattle.std.specs.Prelude.{◌≡◌, ◌+◌};
-ghost use Rattle.keeper.specs.declared.outcome.Outcome.TheVariants.{HandedOut, Nothing};
-ghost use Rattle.announcement_theory.specs.declared.position.Position.TheVariants.{C4, C6, Idle};
+ghost use Rattle.keeper.specs.declared.outcome.Outcome.TheVariants.{GoesOn, HandedOut, Nothing};
+ghost use Rattle.announcement_theory.specs.declared.announcement.Announcement.TheVariants as announcement;
+ghost use Rattle.announcement_theory.specs.declared.position.Position.TheVariants.{Closing, Idle};
+ghost use Rattle.announcement_theory.specs.declared.position.CloseLabel.TheVariants.{C2, C4, C6};
 ghost use Rattle.announcement_theory.specs.declared.slot.Status.TheVariants.{Frozen, Pending};
-ghost use Rattle.announcement_theory.specs.State.{stored};
+ghost use Rattle.announcement_theory.specs.State.{seat, stored};
 ghost use Rattle.announcement_theory.specs.Tests.{restated};
-ghost use Rattle.announcement_theory.specs.Next.{fill, go_to, goes, step_at, stepped};
+ghost use Rattle.announcement_theory.specs.Next.{fill, go_to, goes, put, step_at, stepped};
 ghost use Rattle.board.specs.Boards.{state_of};
-ghost use Rattle.board.specs.Steps.{CloseTook, SlotTook, Took, closed_slot};
+ghost use Rattle.board.specs.Steps.{Took};
 
 use crate::board::Board;
 use crate::marks::frozen;
-use announcement_theory::{Announcement, Mark, Position, Status, Stored};
+use announcement_theory::{Announcement, CloseLabel, Mark, Position, Status, Stored};
 use keeper::Outcome;
-
-// The slot of the version that a closing program is about.
-fn closed_slot(position: Position) -> u32
-    ensures { result ≡ closed_slot position }
-{
-    match position {
-        Position::C1(version) | Position::C2(version) | Position::C3(version) => version.slot,
-        Position::C4 { version, .. } | Position::C6 { version, .. } => version.slot,
-        Position::C5(version) | Position::C7(version) => version.slot,
-        _ => 0,
-    }
-}
 
 impl Board {
     // A close ends with nothing.
@@ -41,29 +30,17 @@ impl Board {
         self.ends(p, Position::Idle, Outcome::HandedOut(version.serial))
     }
 
-    // A step of a close.
-    pub(crate) fn close_step(&mut self, p: u32, position: Position) -> Outcome
-        ensures { CloseTook (state_of self.old) p position (state_of self.new) result }
+    // A step of a close, by its label and the status of the slot of its version together.
+    pub(crate) fn close_step(&mut self, p: u32, version: Mark, at: CloseLabel) -> Outcome
+        ensures { Took (step_at (state_of self.old) p (Closing version at)) (state_of self.new) result }
     {
-        match position {
-            Position::C1(v) => self.goes_announcing(p, Position::C2(v), Announcement::Empty),
-            Position::C2(v) if self.current == v => self.leaves(p),
-            Position::C2(v) => self.goes(p, Position::C3(v)),
-            Position::C3(_) | Position::C5(_) | Position::C7(_) => self.slot_step(p, position),
-            Position::C4 { version, program } => self.bind_step(p, version, program),
-            Position::C6 { version, program } => self.scan_step(p, version, program),
-            _ => Outcome::GoesOn,
-        }
-    }
-
-    // A step of a close that looks at the slot of its version: by its label and the slot's status together.
-    fn slot_step(&mut self, p: u32, position: Position) -> Outcome
-        ensures { SlotTook (state_of self.old) p position (state_of self.new) result }
-    {
-        let slot = self.slot_at(closed_slot(position));
-        match (position, slot) {
+        let slot = self.slot_at(version.slot);
+        match (at, slot) {
+            (CloseLabel::C1, _) => self.gives_back(p, version),
+            (CloseLabel::C2, _) if self.current == version => self.leaves(p),
+            (CloseLabel::C2, _) => self.closes_at(p, version, CloseLabel::C3),
             (
-                Position::C3(v),
+                CloseLabel::C3,
                 Some(
                     Stored {
                         serial,
@@ -71,9 +48,9 @@ impl Board {
                         status: Status::Usable,
                     },
                 ),
-            ) if serial == v.serial => self.pends(p, v, root),
+            ) if serial == version.serial => self.pends(p, version, root),
             (
-                Position::C3(v),
+                CloseLabel::C3,
                 Some(
                     Stored {
                         serial,
@@ -81,11 +58,13 @@ impl Board {
                         ..
                     },
                 ),
-            ) if serial == v.serial => self.scans(p, v),
-            (Position::C3(_), _) => self.leaves(p),
-            (Position::C5(v), _) => self.freezes(p, v, slot),
+            ) if serial == version.serial => self.scans(p, version),
+            (CloseLabel::C3, _) => self.leaves(p),
+            (CloseLabel::C4 { program }, _) => self.bind_step(p, version, program),
+            (CloseLabel::C5, _) => self.freezes(p, version, slot),
+            (CloseLabel::C6 { program }, _) => self.scan_step(p, version, program),
             (
-                Position::C7(v),
+                CloseLabel::C7,
                 Some(
                     Stored {
                         serial,
@@ -93,85 +72,83 @@ impl Board {
                         ..
                     },
                 ),
-            ) if serial == v.serial => self.hands_out(p, v),
-            (Position::C7(_), _) => self.leaves(p),
-            _ => Outcome::GoesOn,
+            ) if serial == version.serial => self.hands_out(p, version),
+            (CloseLabel::C7, _) => self.leaves(p),
         }
     }
 
-    // A usable slot becomes pending, and programs that announced its version are helped.
-    fn pends(&mut self, p: u32, v: Mark, root: u32) -> Outcome
-        ensures { Took (goes (fill (state_of self.old) v.slot (Some (stored v.serial root Pending))) p (C4 v 0)) (state_of self.new) result }
+    // The own announcement is emptied.
+    fn gives_back(&mut self, p: u32, version: Mark) -> Outcome
+        ensures { Took (stepped (put (state_of self.old) p (seat (Closing version C2) announcement.Empty)) GoesOn) (state_of self.new) result }
     {
-        let serial = v.serial;
+        let at = CloseLabel::C2;
+        self.goes_announcing(p, Position::Closing { version, at }, Announcement::Empty)
+    }
+
+    // A close goes on at another label.
+    fn closes_at(&mut self, p: u32, version: Mark, at: CloseLabel) -> Outcome
+        ensures { Took (goes (state_of self.old) p (Closing version at)) (state_of self.new) result }
+    {
+        self.goes(p, Position::Closing { version, at })
+    }
+
+    // A usable slot becomes pending, and programs that announced its version are helped.
+    fn pends(&mut self, p: u32, version: Mark, root: u32) -> Outcome
+        ensures { Took (goes (fill (state_of self.old) version.slot (Some (stored version.serial root Pending))) p (Closing version (C4 0))) (state_of self.new) result }
+    {
+        let serial = version.serial;
         self.fill(
-            v.slot,
+            version.slot,
             Some(Stored {
                 serial,
                 root,
                 status: Status::Pending,
             }),
         );
-        self.goes(
-            p,
-            Position::C4 {
-                version: v,
-                program: 0,
-            },
-        )
+        self.closes_at(p, version, CloseLabel::C4 { program: 0 })
     }
 
     // Programs are looked for that have the version.
-    fn scans(&mut self, p: u32, v: Mark) -> Outcome
-        ensures { Took (goes (state_of self.old) p (C6 v 0)) (state_of self.new) result }
+    fn scans(&mut self, p: u32, version: Mark) -> Outcome
+        ensures { Took (goes (state_of self.old) p (Closing version (C6 0))) (state_of self.new) result }
     {
-        self.goes(
-            p,
-            Position::C6 {
-                version: v,
-                program: 0,
-            },
-        )
+        self.closes_at(p, version, CloseLabel::C6 { program: 0 })
     }
 
     // The slot is frozen, and programs are looked for that have its version.
-    fn freezes(&mut self, p: u32, v: Mark, held: Option<Stored>) -> Outcome
-        ensures { Took (goes (fill (state_of self.old) v.slot (restated Frozen held)) p (C6 v 0)) (state_of self.new) result }
+    fn freezes(&mut self, p: u32, version: Mark, held: Option<Stored>) -> Outcome
+        ensures { Took (goes (fill (state_of self.old) version.slot (restated Frozen held)) p (Closing version (C6 0))) (state_of self.new) result }
     {
-        self.fill(v.slot, frozen(held));
-        self.scans(p, v)
+        self.fill(version.slot, frozen(held));
+        self.scans(p, version)
     }
 
     // C4: a program that asks for help with the version is bound to it.
     fn bind_step(&mut self, p: u32, version: Mark, program: u32) -> Outcome
-        ensures { Took (step_at (state_of self.old) p (C4 version program)) (state_of self.new) result }
+        ensures { Took (step_at (state_of self.old) p (Closing version (C4 program))) (state_of self.new) result }
     {
-        let position = match program {
-            next if next < self.programs.saturating_sub(1) => Position::C4 {
-                version,
-                program: next + 1,
-            },
-            _ => Position::C5(version),
+        let at = match program {
+            next if next < self.programs.saturating_sub(1) => CloseLabel::C4 { program: next + 1 },
+            _ => CloseLabel::C5,
         };
         if self.seat_at(program).announced == Announcement::Help(version) {
             self.announce(program, Announcement::Plain(version));
         }
-        self.goes(p, position)
+        self.closes_at(p, version, at)
     }
 
     // C6: where a program has the version, or is bound to it, the close leaves it there.
     fn scan_step(&mut self, p: u32, version: Mark, program: u32) -> Outcome
-        ensures { Took (step_at (state_of self.old) p (C6 version program)) (state_of self.new) result }
+        ensures { Took (step_at (state_of self.old) p (Closing version (C6 program))) (state_of self.new) result }
     {
         if self.seat_at(program).announced == Announcement::Plain(version) {
             return self.leaves(p);
         }
         match program {
             next if next < self.programs.saturating_sub(1) => {
-                let program = next + 1;
-                self.goes(p, Position::C6 { version, program })
+                self.closes_at(p, version, CloseLabel::C6 { program: next + 1 })
             }
-            _ => self.goes(p, Position::C7(version)),
+            _ => self.closes_at(p, version, CloseLabel::C7),
         }
     }
 }
