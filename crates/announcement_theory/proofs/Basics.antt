@@ -93,25 +93,10 @@ pending_frozen (Some x) e = only_pending x.status e
 
 -- the slot of an owner, whatever number of programs it counts with
 pub owned_is : (all : ℕ) (at : Position) → owned_in (offerer all at) ≡ owned at
-owned_is all Idle = refl
-owned_is all (Opening since u O1) = refl
-owned_is all (Opening since u O2) = refl
-owned_is all (Opening since u O3) = refl
-owned_is all (Opening since u (O4 round)) = refl
-owned_is all (Opening since u (O5 w round)) = refl
-owned_is all (Opening since u (O6 round)) = refl
-owned_is all (Open v) = refl
 owned_is all (Offering r over i F1) = refl
 owned_is all (Offering r over i (F2 x)) = refl
 owned_is all (Offering r over i F3) = refl
-owned_is all (Offered v) = refl
-owned_is all (Closing v C1) = refl
-owned_is all (Closing v C2) = refl
-owned_is all (Closing v C3) = refl
-owned_is all (Closing v (C4 x)) = refl
-owned_is all (Closing v C5) = refl
-owned_is all (Closing v (C6 x)) = refl
-owned_is all (Closing v C7) = refl
+owned_is all _ = refl
 
 pub owner_owns : (all : ℕ) (at : Position) (r : ℕ) (over : Mark) (i f : ℕ) → offerer all at ≡ owns r over i f → owned at ≡ Some i
 owner_owns all at r over i f e = sym (owned_is all at) ∙ ap owned_in e

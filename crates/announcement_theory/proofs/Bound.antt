@@ -26,25 +26,9 @@ use Rattle.announcement_theory.proofs.Effects.{kept_put}
 
 -- an asking program is opening
 pub asking_stage : (at : Position) (u : Mark) → manner at ≡ asking u → (a : Announcement) → stage_from a at ≡ stage.Opening (since at) (bound a)
-asking_stage Idle u e a = let z : ◌≡◌ {A = ℕ} 0 1 = cc in absurd (omega arith)
-asking_stage (Opening since v O1) u e a = refl
-asking_stage (Opening since v O2) u e a = refl
-asking_stage (Opening since v O3) u e a = refl
-asking_stage (Opening since v (O4 round)) u e a = refl
-asking_stage (Opening since v (O5 w round)) u e a = refl
-asking_stage (Opening since v (O6 round)) u e a = refl
-asking_stage (Open v) u e a = let z : ◌≡◌ {A = ℕ} 0 1 = cc in absurd (omega arith)
-asking_stage (Offering r over i F1) u e a = let z : ◌≡◌ {A = ℕ} 0 1 = cc in absurd (omega arith)
-asking_stage (Offering r over i (F2 x)) u e a = let z : ◌≡◌ {A = ℕ} 0 1 = cc in absurd (omega arith)
-asking_stage (Offering r over i F3) u e a = let z : ◌≡◌ {A = ℕ} 0 1 = cc in absurd (omega arith)
-asking_stage (Offered v) u e a = let z : ◌≡◌ {A = ℕ} 0 1 = cc in absurd (omega arith)
+asking_stage (Opening since v at) u e a = refl
 asking_stage (Closing v C1) u e a = let z : ◌≡◌ {A = ℕ} 0 1 = cc in absurd (omega arith)
-asking_stage (Closing v C2) u e a = let z : ◌≡◌ {A = ℕ} 0 1 = cc in absurd (omega arith)
-asking_stage (Closing v C3) u e a = let z : ◌≡◌ {A = ℕ} 0 1 = cc in absurd (omega arith)
-asking_stage (Closing v (C4 x)) u e a = let z : ◌≡◌ {A = ℕ} 0 1 = cc in absurd (omega arith)
-asking_stage (Closing v C5) u e a = let z : ◌≡◌ {A = ℕ} 0 1 = cc in absurd (omega arith)
-asking_stage (Closing v (C6 x)) u e a = let z : ◌≡◌ {A = ℕ} 0 1 = cc in absurd (omega arith)
-asking_stage (Closing v C7) u e a = let z : ◌≡◌ {A = ℕ} 0 1 = cc in absurd (omega arith)
+asking_stage _ u e a = let z : ◌≡◌ {A = ℕ} 0 1 = cc in absurd (omega arith)
 
 -- x asked for help with u and is bound to w, and p goes from old to new
 module _ (s : State) (g : Good s) (p : ℕ) (h : p < s.programs) (x : ℕ) (l : x < s.programs) (ne : x ≡ p → ⊥) (u w : Mark)

@@ -23,66 +23,16 @@ use Rattle.announcement_theory.proofs.Done.{opens_done, publishes_done, closes_o
 -- where a program stands that is idle, open, or may close
 idle_position : (at : Position) (a : Announcement) → idle (stage_from a at) ≡ true → at ≡ Idle
 idle_position Idle a e = refl
-idle_position (Opening n u O1) a e = false_true e
-idle_position (Opening n u O2) a e = false_true e
-idle_position (Opening n u O3) a e = false_true e
-idle_position (Opening n u (O4 r)) a e = false_true e
-idle_position (Opening n u (O5 w r)) a e = false_true e
-idle_position (Opening n u (O6 r)) a e = false_true e
-idle_position (Open v) a e = false_true e
-idle_position (Offering r over i F1) a e = false_true e
-idle_position (Offering r over i (F2 x)) a e = false_true e
-idle_position (Offering r over i F3) a e = false_true e
-idle_position (Offered v) a e = false_true e
-idle_position (Closing v C1) a e = false_true e
-idle_position (Closing v C2) a e = false_true e
-idle_position (Closing v C3) a e = false_true e
-idle_position (Closing v (C4 x)) a e = false_true e
-idle_position (Closing v C5) a e = false_true e
-idle_position (Closing v (C6 x)) a e = false_true e
-idle_position (Closing v C7) a e = false_true e
+idle_position _ a e = false_true e
 
 open_position : (at : Position) (a : Announcement) → opened (stage_from a at) ≡ true → (v : Mark) × (at ≡ Open v)
-open_position Idle a e = false_true e
-open_position (Opening n u O1) a e = false_true e
-open_position (Opening n u O2) a e = false_true e
-open_position (Opening n u O3) a e = false_true e
-open_position (Opening n u (O4 r)) a e = false_true e
-open_position (Opening n u (O5 w r)) a e = false_true e
-open_position (Opening n u (O6 r)) a e = false_true e
 open_position (Open v) a e = (v, refl)
-open_position (Offering r over i F1) a e = false_true e
-open_position (Offering r over i (F2 x)) a e = false_true e
-open_position (Offering r over i F3) a e = false_true e
-open_position (Offered v) a e = false_true e
-open_position (Closing v C1) a e = false_true e
-open_position (Closing v C2) a e = false_true e
-open_position (Closing v C3) a e = false_true e
-open_position (Closing v (C4 x)) a e = false_true e
-open_position (Closing v C5) a e = false_true e
-open_position (Closing v (C6 x)) a e = false_true e
-open_position (Closing v C7) a e = false_true e
+open_position _ a e = false_true e
 
 close_position : (at : Position) (a : Announcement) → closable (stage_from a at) ≡ true → (v : Mark) × ((at ≡ Open v) ⊎ (at ≡ Offered v))
-close_position Idle a e = false_true e
-close_position (Opening n u O1) a e = false_true e
-close_position (Opening n u O2) a e = false_true e
-close_position (Opening n u O3) a e = false_true e
-close_position (Opening n u (O4 r)) a e = false_true e
-close_position (Opening n u (O5 w r)) a e = false_true e
-close_position (Opening n u (O6 r)) a e = false_true e
 close_position (Open v) a e = (v, inl refl)
-close_position (Offering r over i F1) a e = false_true e
-close_position (Offering r over i (F2 x)) a e = false_true e
-close_position (Offering r over i F3) a e = false_true e
 close_position (Offered v) a e = (v, inr refl)
-close_position (Closing v C1) a e = false_true e
-close_position (Closing v C2) a e = false_true e
-close_position (Closing v C3) a e = false_true e
-close_position (Closing v (C4 x)) a e = false_true e
-close_position (Closing v C5) a e = false_true e
-close_position (Closing v (C6 x)) a e = false_true e
-close_position (Closing v C7) a e = false_true e
+close_position _ a e = false_true e
 
 module _ (s : State) (g : Good s) (p : ℕ) (h : p < s.programs) where
   abbrev st : Stage

@@ -111,46 +111,18 @@ record Uses (at : Position) (a : Announcement) (v : Mark) : Type 0 where
   pub «is» : (c : Mark) (i : ℕ) → share_of c i (past_of at) a ≡ used c i v extra
 
 has_uses : (at : Position) (v : Mark) → fits (manner at) (announcement.Plain v) ≡ true → Uses at (announcement.Plain v) v
-has_uses Idle v e = false_true e
 has_uses (Opening since u O1) v e = false_true e
-has_uses (Opening since u O2) v e = record { extra = 0; is = λ c i. refl }
-has_uses (Opening since u O3) v e = record { extra = 0; is = λ c i. refl }
-has_uses (Opening since u (O4 round)) v e = record { extra = 0; is = λ c i. refl }
-has_uses (Opening since u (O5 w round)) v e = record { extra = 0; is = λ c i. refl }
-has_uses (Opening since u (O6 round)) v e = record { extra = 0; is = λ c i. refl }
+has_uses (Opening since u _) v e = record { extra = 0; is = λ c i. refl }
 has_uses (Open u) v e = record { extra = 0; is = λ c i. ap (λ y. used c i y 0) (mark_same u v e) }
-has_uses (Offering r u i F1) v e = record { extra = 0; is = λ c i. ap (λ y. used c i y 0) (mark_same u v e) }
-has_uses (Offering r u i (F2 x)) v e = record { extra = 0; is = λ c i. ap (λ y. used c i y 0) (mark_same u v e) }
-has_uses (Offering r u i F3) v e = record { extra = 0; is = λ c i. ap (λ y. used c i y 0) (mark_same u v e) }
+has_uses (Offering r u i at) v e = record { extra = 0; is = λ c i. ap (λ y. used c i y 0) (mark_same u v e) }
 has_uses (Offered u) v e = record { extra = 1; is = λ c i. ap (λ y. used c i y 1) (mark_same u v e) }
 has_uses (Closing u C1) v e = record { extra = 1; is = λ c i. ap (λ y. used c i y 1) (mark_same u v e) }
-has_uses (Closing u C2) v e = false_true e
-has_uses (Closing u C3) v e = false_true e
-has_uses (Closing u (C4 x)) v e = false_true e
-has_uses (Closing u C5) v e = false_true e
-has_uses (Closing u (C6 x)) v e = false_true e
-has_uses (Closing u C7) v e = false_true e
+has_uses _ v e = false_true e
 
 closes_uses : (all : ℕ) (at : Position) (a : Announcement) (v : Mark) → closed (closer all at) ≡ Some v → Uses at a v
-closes_uses all Idle a v e = none_some v e
-closes_uses all (Opening since u O1) a v e = none_some v e
-closes_uses all (Opening since u O2) a v e = none_some v e
-closes_uses all (Opening since u O3) a v e = none_some v e
-closes_uses all (Opening since u (O4 round)) a v e = none_some v e
-closes_uses all (Opening since u (O5 w round)) a v e = none_some v e
-closes_uses all (Opening since u (O6 round)) a v e = none_some v e
-closes_uses all (Open u) a v e = none_some v e
-closes_uses all (Offering r u i F1) a v e = none_some v e
-closes_uses all (Offering r u i (F2 x)) a v e = none_some v e
-closes_uses all (Offering r u i F3) a v e = none_some v e
-closes_uses all (Offered u) a v e = none_some v e
 closes_uses all (Closing u C1) a v e = none_some v e
-closes_uses all (Closing u C2) a v e = record { extra = 1; is = λ c i. ap (λ y. used c i y 1) (some_same u v e) }
-closes_uses all (Closing u C3) a v e = record { extra = 1; is = λ c i. ap (λ y. used c i y 1) (some_same u v e) }
-closes_uses all (Closing u (C4 x)) a v e = record { extra = 1; is = λ c i. ap (λ y. used c i y 1) (some_same u v e) }
-closes_uses all (Closing u C5) a v e = record { extra = 1; is = λ c i. ap (λ y. used c i y 1) (some_same u v e) }
-closes_uses all (Closing u (C6 x)) a v e = record { extra = 1; is = λ c i. ap (λ y. used c i y 1) (some_same u v e) }
-closes_uses all (Closing u C7) a v e = record { extra = 1; is = λ c i. ap (λ y. used c i y 1) (some_same u v e) }
+closes_uses all (Closing u _) a v e = record { extra = 1; is = λ c i. ap (λ y. used c i y 1) (some_same u v e) }
+closes_uses all _ a v e = none_some v e
 
 module _ (s : State) (g : Good s) (i : ℕ) (full : filled (slot_at s i) ≡ true) where
   abbrev V : Mark

@@ -53,70 +53,27 @@ held_plain : (a : Announcement) (v : Mark) (n : ℕ) → fits (holding v) a ≡ 
 held_plain a v n l e = record { version = v; says = holding_plain v a l; serial = some_same v.serial n e }
 
 pub has_plain : (at : Position) (a : Announcement) (n : ℕ) → fits (manner at) a ≡ true → has (stage_from a at) ≡ Some n → Plainly a n
-has_plain Idle a n l e = none_some n e
-has_plain (Opening since u O1) a n l e = bound_plain a n e
-has_plain (Opening since u O2) a n l e = bound_plain a n e
-has_plain (Opening since u O3) a n l e = bound_plain a n e
-has_plain (Opening since u (O4 round)) a n l e = bound_plain a n e
-has_plain (Opening since u (O5 w round)) a n l e = bound_plain a n e
-has_plain (Opening since u (O6 round)) a n l e = bound_plain a n e
+has_plain (Opening since u at) a n l e = bound_plain a n e
 has_plain (Open v) a n l e = held_plain a v n l e
-has_plain (Offering r v i F1) a n l e = held_plain a v n l e
-has_plain (Offering r v i (F2 x)) a n l e = held_plain a v n l e
-has_plain (Offering r v i F3) a n l e = held_plain a v n l e
+has_plain (Offering r v i at) a n l e = held_plain a v n l e
 has_plain (Offered v) a n l e = held_plain a v n l e
-has_plain (Closing v C1) a n l e = none_some n e
-has_plain (Closing v C2) a n l e = none_some n e
-has_plain (Closing v C3) a n l e = none_some n e
-has_plain (Closing v (C4 x)) a n l e = none_some n e
-has_plain (Closing v C5) a n l e = none_some n e
-has_plain (Closing v (C6 x)) a n l e = none_some n e
-has_plain (Closing v C7) a n l e = none_some n e
+has_plain _ a n l e = none_some n e
 
 -- a program that announces v without help has it, or is closing it
 plain_engaged : (at : Position) (v : Mark) → fits (manner at) (announcement.Plain v) ≡ true → engaged (stage_from (announcement.Plain v) at) ≡ Some
     v.serial
-plain_engaged Idle v e = false_true e
-plain_engaged (Opening since u O1) v e = refl
-plain_engaged (Opening since u O2) v e = refl
-plain_engaged (Opening since u O3) v e = refl
-plain_engaged (Opening since u (O4 round)) v e = refl
-plain_engaged (Opening since u (O5 w round)) v e = refl
-plain_engaged (Opening since u (O6 round)) v e = refl
+plain_engaged (Opening since u at) v e = refl
 plain_engaged (Open u) v e = ap (λ (y : Mark). Some y.serial) (mark_same u v e)
-plain_engaged (Offering r u i F1) v e = ap (λ (y : Mark). Some y.serial) (mark_same u v e)
-plain_engaged (Offering r u i (F2 x)) v e = ap (λ (y : Mark). Some y.serial) (mark_same u v e)
-plain_engaged (Offering r u i F3) v e = ap (λ (y : Mark). Some y.serial) (mark_same u v e)
+plain_engaged (Offering r u i at) v e = ap (λ (y : Mark). Some y.serial) (mark_same u v e)
 plain_engaged (Offered u) v e = ap (λ (y : Mark). Some y.serial) (mark_same u v e)
 plain_engaged (Closing u C1) v e = ap (λ (y : Mark). Some y.serial) (mark_same u v e)
-plain_engaged (Closing u C2) v e = false_true e
-plain_engaged (Closing u C3) v e = false_true e
-plain_engaged (Closing u (C4 x)) v e = false_true e
-plain_engaged (Closing u C5) v e = false_true e
-plain_engaged (Closing u (C6 x)) v e = false_true e
-plain_engaged (Closing u C7) v e = false_true e
+plain_engaged _ v e = false_true e
 
 closing_engaged : (all : ℕ) (at : Position) (a : Announcement) (v : Mark) → closed (closer all at) ≡ Some v → engaged (stage_from a at) ≡ Some
     v.serial
-closing_engaged all Idle a v e = none_some v e
-closing_engaged all (Opening since u O1) a v e = none_some v e
-closing_engaged all (Opening since u O2) a v e = none_some v e
-closing_engaged all (Opening since u O3) a v e = none_some v e
-closing_engaged all (Opening since u (O4 round)) a v e = none_some v e
-closing_engaged all (Opening since u (O5 w round)) a v e = none_some v e
-closing_engaged all (Opening since u (O6 round)) a v e = none_some v e
-closing_engaged all (Open u) a v e = none_some v e
-closing_engaged all (Offering r u i F1) a v e = none_some v e
-closing_engaged all (Offering r u i (F2 x)) a v e = none_some v e
-closing_engaged all (Offering r u i F3) a v e = none_some v e
-closing_engaged all (Offered u) a v e = none_some v e
 closing_engaged all (Closing u C1) a v e = none_some v e
-closing_engaged all (Closing u C2) a v e = ap (λ (y : Mark). Some y.serial) (some_same u v e)
-closing_engaged all (Closing u C3) a v e = ap (λ (y : Mark). Some y.serial) (some_same u v e)
-closing_engaged all (Closing u (C4 x)) a v e = ap (λ (y : Mark). Some y.serial) (some_same u v e)
-closing_engaged all (Closing u C5) a v e = ap (λ (y : Mark). Some y.serial) (some_same u v e)
-closing_engaged all (Closing u (C6 x)) a v e = ap (λ (y : Mark). Some y.serial) (some_same u v e)
-closing_engaged all (Closing u C7) a v e = ap (λ (y : Mark). Some y.serial) (some_same u v e)
+closing_engaged all (Closing u _) a v e = ap (λ (y : Mark). Some y.serial) (some_same u v e)
+closing_engaged all _ a v e = none_some v e
 
 in_round_some : (r : Round) (a b : ℕ) → 0 < a → 0 < b → 0 < in_round r a b
 in_round_some First a b h k = h
@@ -125,24 +82,16 @@ in_round_some Second a b h k = k
 -- steps are left exactly where the stage says so
 pub paced_at : (all : ℕ) (at : Position) (a : Announcement) → ranged all at ≡ true → Paced (stage_from a at) (left_at all at)
 paced_at all Idle a l = refl
-paced_at all (Opening since u O1) a l = omega arith
-paced_at all (Opening since u O2) a l = omega arith
-paced_at all (Opening since u O3) a l = omega arith
 paced_at all (Opening since u (O4 round)) a l = in_round_some round 7 4 (omega arith) (omega arith)
 paced_at all (Opening since u (O5 w round)) a l = in_round_some round 6 3 (omega arith) (omega arith)
 paced_at all (Opening since u (O6 round)) a l = in_round_some round 5 2 (omega arith) (omega arith)
 paced_at all (Open v) a l = refl
 paced_at all (Offering r v i F1) a l = omega (arith, leb-true i (3 * all) l)
 paced_at all (Offering r v i (F2 x)) a l = omega (arith, ltb-true x all (and_parts (leb i (3 * all)) (ltb x all) l).1)
-paced_at all (Offering r v i F3) a l = omega arith
 paced_at all (Offered v) a l = refl
-paced_at all (Closing v C1) a l = omega arith
-paced_at all (Closing v C2) a l = omega arith
-paced_at all (Closing v C3) a l = omega arith
 paced_at all (Closing v (C4 x)) a l = omega (arith, ltb-true x all l)
-paced_at all (Closing v C5) a l = omega arith
 paced_at all (Closing v (C6 x)) a l = omega (arith, ltb-true x all l)
-paced_at all (Closing v C7) a l = omega arith
+paced_at all _ a l = omega arith
 
 module _ (s : State) (g : Good s) where
   -- a version that is kept in slot j

@@ -59,38 +59,19 @@ longest all c (Offering r over i (F2 x)) l m =
     next_left all x (all - x) (all + 1 - x) (Offering r over i (F2 (x + 1))) (Offering r over i F3) h (λ k. omega arith) (λ k. omega arith) (omega arith)
 longest all c (Offering r over i F3) l m = refl
 longest all c (Offered v) l m = false_true m
-longest all c (Closing v C1) l m = omega arith
-longest all c (Closing v C2) l m = omega arith
-longest all c (Closing v C3) l m = omega arith
 longest all c (Closing v (C4 x)) l m =
     let h : x < all = ltb-true x all l in
     next_left all x (2 * all + 1 - x) (2 * all + 2 - x) (Closing v (C4 (x + 1))) (Closing v C5) h (λ k. omega arith) (λ k. omega arith) (omega arith)
-longest all c (Closing v C5) l m = omega arith
 longest all c (Closing v (C6 x)) l m =
     let h : x < all = ltb-true x all l in
     next_left all x (all - x) (all + 1 - x) (Closing v (C6 (x + 1))) (Closing v C7) h (λ k. omega arith) (λ k. omega arith) (omega arith)
-longest all c (Closing v C7) l m = refl
+longest all c (Closing v _) l m = omega arith
 
 pub ended : Ended
 ended all Idle m = refl
-ended all (Opening n u O1) m = true_false m
-ended all (Opening n u O2) m = true_false m
-ended all (Opening n u O3) m = true_false m
-ended all (Opening n u (O4 r)) m = true_false m
-ended all (Opening n u (O5 w r)) m = true_false m
-ended all (Opening n u (O6 r)) m = true_false m
 ended all (Open v) m = refl
-ended all (Offering r over i F1) m = true_false m
-ended all (Offering r over i (F2 x)) m = true_false m
-ended all (Offering r over i F3) m = true_false m
 ended all (Offered v) m = refl
-ended all (Closing v C1) m = true_false m
-ended all (Closing v C2) m = true_false m
-ended all (Closing v C3) m = true_false m
-ended all (Closing v (C4 x)) m = true_false m
-ended all (Closing v C5) m = true_false m
-ended all (Closing v (C6 x)) m = true_false m
-ended all (Closing v C7) m = true_false m
+ended all _ m = true_false m
 
 -- outcomes that end an operation
 opened_ends : (n : ℕ) → Opened n ≡ GoesOn → ⊥
@@ -376,33 +357,25 @@ module _ (all : ℕ) where
 pub reaches : Reaches
 reaches all c Idle to m = absurd m
 reaches all c (Opening n u O1) to (inl e) = subst (Way all (Opening n u O1)) (sym e) (way_straight all c (Opening n u O1) (Opening n u O2) (refl, refl))
-reaches all c (Opening n u O1) to (inr m) = absurd m
 reaches all c (Opening n u O2) to (inl e) = subst (Way all (Opening n u O2)) (sym e) (way_o2_o3 all n u)
 reaches all c (Opening n u O2) to (inr (inl e)) = subst (Way all (Opening n u O2)) (sym e) (way_o2_o4 all n u)
 reaches all c (Opening n u O2) to (inr (inr m)) = absurd m
 reaches all c (Opening n u O3) to m = absurd m
 reaches all c (Opening n u (O4 r)) to (inl e) = subst (Way all (Opening n u (O4 r))) (sym e) (way_straight all c (Opening n u (O4 r)) (Opening n u (O5 c r)) (refl, refl))
-reaches all c (Opening n u (O4 r)) to (inr m) = absurd m
 reaches all c (Opening n u (O5 w r)) to (inl e) = subst (Way all (Opening n u (O5 w r))) (sym e) (way_o5 all n u w r)
-reaches all c (Opening n u (O5 w r)) to (inr m) = absurd m
 reaches all c (Opening n u (O6 r)) to m = way_rounds all n u r to m
 reaches all c (Open v) to m = absurd m
 reaches all c (Offering r over i F1) to m = way_f1 all r over i to (ltb i (3 * all)) refl m
 reaches all c (Offering r over i (F2 x)) to (inl e) = subst (Way all (Offering r over i (F2 x))) (sym e) (way_f2 all r over i x)
-reaches all c (Offering r over i (F2 x)) to (inr m) = absurd m
 reaches all c (Offering r over i F3) to m = absurd m
 reaches all c (Offered v) to m = absurd m
 reaches all c (Closing v C1) to (inl e) = subst (Way all (Closing v C1)) (sym e) (way_straight all c (Closing v C1) (Closing v C2) (refl, refl))
-reaches all c (Closing v C1) to (inr m) = absurd m
 reaches all c (Closing v C2) to (inl e) = subst (Way all (Closing v C2)) (sym e) (way_c2 all v)
-reaches all c (Closing v C2) to (inr m) = absurd m
 reaches all c (Closing v C3) to (inl e) = subst (Way all (Closing v C3)) (sym e) (way_c3_c4 all v)
 reaches all c (Closing v C3) to (inr (inl e)) = subst (Way all (Closing v C3)) (sym e) (way_c3_c6 all v)
 reaches all c (Closing v C3) to (inr (inr m)) = absurd m
 reaches all c (Closing v (C4 x)) to (inl e) = subst (Way all (Closing v (C4 x))) (sym e) (way_c4 all v x)
-reaches all c (Closing v (C4 x)) to (inr m) = absurd m
 reaches all c (Closing v C5) to (inl e) = subst (Way all (Closing v C5)) (sym e) (way_straight all c (Closing v C5) (Closing v (C6 0)) (refl, refl))
-reaches all c (Closing v C5) to (inr m) = absurd m
 reaches all c (Closing v (C6 x)) to (inl e) = subst (Way all (Closing v (C6 x))) (sym e) (way_c6 all v x)
-reaches all c (Closing v (C6 x)) to (inr m) = absurd m
 reaches all c (Closing v C7) to m = absurd m
+reaches all c _ to (inr m) = absurd m

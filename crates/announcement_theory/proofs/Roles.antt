@@ -1,11 +1,12 @@
 -- Which views of a position go together.
-use Rattle.std.proofs.Common.{◌≡◌, ℕ, Bool, true, false, Some, None, Option, refl, ap, subst, arith}
+use Rattle.std.proofs.Common.{◌≡◌, ℕ, Bool, true, false, Some, None, Option, sym, refl, ap, ◌∙◌, subst, arith}
 use Rattle.announcement_theory.specs.declared.mark.Mark.{Mark}
 use Rattle.announcement_theory.specs.declared.announcement.Announcement.{Announcement}
 use Rattle.announcement_theory.specs.declared.announcement.Announcement.TheVariants as announcement
 use Rattle.announcement_theory.specs.declared.position.Position.{Position}
 use Rattle.announcement_theory.specs.declared.position.Position.TheVariants.{Idle, Opening, Open, Offering, Offered, Closing}
 use Rattle.announcement_theory.specs.declared.position.OpenLabel.TheVariants.{O1, O2, O3, O4, O5, O6}
+use Rattle.announcement_theory.specs.declared.position.OfferLabel.{OfferLabel}
 use Rattle.announcement_theory.specs.declared.position.OfferLabel.TheVariants.{F1, F2, F3}
 use Rattle.announcement_theory.specs.declared.position.CloseLabel.TheVariants.{C1, C2, C3, C4, C5, C6, C7}
 use Rattle.announcement_theory.specs.Views.{silent, asking, holding, manner, fits, about, since, Opener, calm, ready, seeking, found, opener, offerer, over_in, Closer, stays, checks, past, pends, sweeps, closer}
@@ -22,44 +23,19 @@ closing (sweeps v b) = true
 pub closing_silent : (all : ℕ) (at : Position) → closing (closer all at) ≡ true → manner at ≡ silent
 closing_silent all Idle e = refl
 closing_silent all (Opening since u O1) e = refl
-closing_silent all (Opening since u O2) e = false_true e
-closing_silent all (Opening since u O3) e = false_true e
-closing_silent all (Opening since u (O4 round)) e = false_true e
-closing_silent all (Opening since u (O5 w round)) e = false_true e
-closing_silent all (Opening since u (O6 round)) e = false_true e
-closing_silent all (Open v) e = false_true e
-closing_silent all (Offering r over i F1) e = false_true e
-closing_silent all (Offering r over i (F2 x)) e = false_true e
-closing_silent all (Offering r over i F3) e = false_true e
-closing_silent all (Offered v) e = false_true e
 closing_silent all (Closing v C1) e = false_true e
-closing_silent all (Closing v C2) e = refl
-closing_silent all (Closing v C3) e = refl
-closing_silent all (Closing v (C4 x)) e = refl
-closing_silent all (Closing v C5) e = refl
-closing_silent all (Closing v (C6 x)) e = refl
-closing_silent all (Closing v C7) e = refl
+closing_silent all (Closing v _) e = refl
+closing_silent all _ e = false_true e
+
+-- an offer is over one version at each label
+over_is : (all r : ℕ) (over : Mark) (i : ℕ) (at : OfferLabel) → over_in (offerer all (Offering r over i at)) ≡ Some over
+over_is all r over i F1 = refl
+over_is all r over i (F2 x) = refl
+over_is all r over i F3 = refl
 
 pub offering_holding : (all : ℕ) (at : Position) (o : Mark) → over_in (offerer all at) ≡ Some o → manner at ≡ holding o
-offering_holding all Idle o e = none_some o e
-offering_holding all (Opening since u O1) o e = none_some o e
-offering_holding all (Opening since u O2) o e = none_some o e
-offering_holding all (Opening since u O3) o e = none_some o e
-offering_holding all (Opening since u (O4 round)) o e = none_some o e
-offering_holding all (Opening since u (O5 w round)) o e = none_some o e
-offering_holding all (Opening since u (O6 round)) o e = none_some o e
-offering_holding all (Open v) o e = none_some o e
-offering_holding all (Offering r over i F1) o e = ap holding (some_same over o e)
-offering_holding all (Offering r over i (F2 x)) o e = ap holding (some_same over o e)
-offering_holding all (Offering r over i F3) o e = ap holding (some_same over o e)
-offering_holding all (Offered v) o e = none_some o e
-offering_holding all (Closing v C1) o e = none_some o e
-offering_holding all (Closing v C2) o e = none_some o e
-offering_holding all (Closing v C3) o e = none_some o e
-offering_holding all (Closing v (C4 x)) o e = none_some o e
-offering_holding all (Closing v C5) o e = none_some o e
-offering_holding all (Closing v (C6 x)) o e = none_some o e
-offering_holding all (Closing v C7) o e = none_some o e
+offering_holding all (Offering r over i at) o e = ap holding (some_same over o (sym (over_is all r over i at) ∙ e))
+offering_holding all _ o e = none_some o e
 
 abbrev is_ready : Opener → Bool
 is_ready calm = false
@@ -68,25 +44,8 @@ is_ready (seeking r) = false
 is_ready (found v r) = false
 
 ready_asks : (at : Position) → is_ready (opener at) ≡ true → (u : Mark) × (manner at ≡ asking u)
-ready_asks Idle e = false_true e
-ready_asks (Opening since u O1) e = false_true e
-ready_asks (Opening since u O2) e = false_true e
 ready_asks (Opening since u O3) e = (u, refl)
-ready_asks (Opening since u (O4 round)) e = false_true e
-ready_asks (Opening since u (O5 w round)) e = false_true e
-ready_asks (Opening since u (O6 round)) e = false_true e
-ready_asks (Open v) e = false_true e
-ready_asks (Offering r over i F1) e = false_true e
-ready_asks (Offering r over i (F2 x)) e = false_true e
-ready_asks (Offering r over i F3) e = false_true e
-ready_asks (Offered v) e = false_true e
-ready_asks (Closing v C1) e = false_true e
-ready_asks (Closing v C2) e = false_true e
-ready_asks (Closing v C3) e = false_true e
-ready_asks (Closing v (C4 x)) e = false_true e
-ready_asks (Closing v C5) e = false_true e
-ready_asks (Closing v (C6 x)) e = false_true e
-ready_asks (Closing v C7) e = false_true e
+ready_asks _ e = false_true e
 
 -- a program about to take its flag off is not closing
 pub ready_not_closing : {A : Type 0} (all : ℕ) (at : Position) → opener at ≡ ready → closing (closer all at) ≡ true → A
@@ -113,43 +72,10 @@ closed (pends v a) = Some v
 closed (sweeps v b) = Some v
 
 pub closing_about : (all : ℕ) (at : Position) (v : Mark) → closed (closer all at) ≡ Some v → about at ≡ Some v
-closing_about all Idle v e = e
-closing_about all (Opening since u O1) v e = none_some v e
-closing_about all (Opening since u O2) v e = none_some v e
-closing_about all (Opening since u O3) v e = none_some v e
-closing_about all (Opening since u (O4 round)) v e = none_some v e
-closing_about all (Opening since u (O5 w round)) v e = none_some v e
-closing_about all (Opening since u (O6 round)) v e = none_some v e
-closing_about all (Open w) v e = none_some v e
-closing_about all (Offering r over i F1) v e = none_some v e
-closing_about all (Offering r over i (F2 x)) v e = none_some v e
-closing_about all (Offering r over i F3) v e = none_some v e
-closing_about all (Offered w) v e = none_some v e
 closing_about all (Closing w C1) v e = none_some v e
-closing_about all (Closing w C2) v e = e
-closing_about all (Closing w C3) v e = e
-closing_about all (Closing w (C4 x)) v e = e
-closing_about all (Closing w C5) v e = e
-closing_about all (Closing w (C6 x)) v e = e
-closing_about all (Closing w C7) v e = e
+closing_about all (Closing w _) v e = e
+closing_about all _ v e = none_some v e
 
 pub offering_about : (all : ℕ) (at : Position) (v : Mark) → over_in (offerer all at) ≡ Some v → about at ≡ Some v
-offering_about all Idle v e = e
-offering_about all (Opening since u O1) v e = none_some v e
-offering_about all (Opening since u O2) v e = none_some v e
-offering_about all (Opening since u O3) v e = none_some v e
-offering_about all (Opening since u (O4 round)) v e = none_some v e
-offering_about all (Opening since u (O5 w round)) v e = none_some v e
-offering_about all (Opening since u (O6 round)) v e = none_some v e
-offering_about all (Open w) v e = none_some v e
-offering_about all (Offering r over i F1) v e = e
-offering_about all (Offering r over i (F2 x)) v e = e
-offering_about all (Offering r over i F3) v e = e
-offering_about all (Offered w) v e = none_some v e
-offering_about all (Closing w C1) v e = none_some v e
-offering_about all (Closing w C2) v e = none_some v e
-offering_about all (Closing w C3) v e = none_some v e
-offering_about all (Closing w (C4 x)) v e = none_some v e
-offering_about all (Closing w C5) v e = none_some v e
-offering_about all (Closing w (C6 x)) v e = none_some v e
-offering_about all (Closing w C7) v e = none_some v e
+offering_about all (Offering r over i at) v e = sym (over_is all r over i at) ∙ e
+offering_about all _ v e = none_some v e

@@ -28,24 +28,13 @@ pub data Past : Type 0 where
 -- what a program may have left behind, by its label
 abbrev pub past_of : Position → Past
 past_of Idle = whole
-past_of (Opening since u O1) = hopes u
-past_of (Opening since u O2) = hopes u
-past_of (Opening since u O3) = hopes u
 past_of (Opening since u (O4 round)) = lost
 past_of (Opening since u (O5 w round)) = lost
-past_of (Opening since u (O6 round)) = hopes u
+past_of (Opening since u _) = hopes u
 past_of (Open v) = uses v
-past_of (Offering r over i F1) = uses over
-past_of (Offering r over i (F2 x)) = uses over
-past_of (Offering r over i F3) = uses over
+past_of (Offering r over i at) = uses over
 past_of (Offered v) = done v
-past_of (Closing v C1) = done v
-past_of (Closing v C2) = done v
-past_of (Closing v C3) = done v
-past_of (Closing v (C4 x)) = done v
-past_of (Closing v C5) = done v
-past_of (Closing v (C6 x)) = done v
-past_of (Closing v C7) = done v
+past_of (Closing v at) = done v
 
 -- 1 where slot j lies below i
 abbrev pub below : ℕ → ℕ → ℕ

@@ -23,23 +23,12 @@ pub data Manner : Type 0 where
 abbrev pub manner : Position → Manner
 manner Idle = silent
 manner (Opening since u O1) = silent
-manner (Opening since u O2) = asking u
-manner (Opening since u O3) = asking u
-manner (Opening since u (O4 round)) = asking u
-manner (Opening since u (O5 w round)) = asking u
-manner (Opening since u (O6 round)) = asking u
+manner (Opening since u _) = asking u
 manner (Open v) = holding v
-manner (Offering r over i F1) = holding over
-manner (Offering r over i (F2 x)) = holding over
-manner (Offering r over i F3) = holding over
+manner (Offering r over i at) = holding over
 manner (Offered v) = holding v
 manner (Closing v C1) = holding v
-manner (Closing v C2) = silent
-manner (Closing v C3) = silent
-manner (Closing v (C4 x)) = silent
-manner (Closing v C5) = silent
-manner (Closing v (C6 x)) = silent
-manner (Closing v C7) = silent
+manner (Closing v _) = silent
 
 -- the announcement is one that goes with the manner
 abbrev pub fits : Manner → Announcement → Bool
@@ -56,46 +45,16 @@ fits (holding u) (announcement.Help v) = false
 -- the version that a program is about
 abbrev pub about : Position → Option Mark
 about Idle = None
-about (Opening since u O1) = Some u
-about (Opening since u O2) = Some u
-about (Opening since u O3) = Some u
-about (Opening since u (O4 round)) = Some u
-about (Opening since u (O5 w round)) = Some u
-about (Opening since u (O6 round)) = Some u
+about (Opening since u at) = Some u
 about (Open v) = Some v
-about (Offering r over i F1) = Some over
-about (Offering r over i (F2 x)) = Some over
-about (Offering r over i F3) = Some over
+about (Offering r over i at) = Some over
 about (Offered v) = Some v
-about (Closing v C1) = Some v
-about (Closing v C2) = Some v
-about (Closing v C3) = Some v
-about (Closing v (C4 x)) = Some v
-about (Closing v C5) = Some v
-about (Closing v (C6 x)) = Some v
-about (Closing v C7) = Some v
+about (Closing v at) = Some v
 
 -- the version read at O4 and not announced yet
 abbrev pub spare : Position → Option Mark
-spare Idle = None
-spare (Opening since u O1) = None
-spare (Opening since u O2) = None
-spare (Opening since u O3) = None
-spare (Opening since u (O4 round)) = None
 spare (Opening since u (O5 w round)) = Some w
-spare (Opening since u (O6 round)) = None
-spare (Open v) = None
-spare (Offering r over i F1) = None
-spare (Offering r over i (F2 x)) = None
-spare (Offering r over i F3) = None
-spare (Offered v) = None
-spare (Closing v C1) = None
-spare (Closing v C2) = None
-spare (Closing v C3) = None
-spare (Closing v (C4 x)) = None
-spare (Closing v C5) = None
-spare (Closing v (C6 x)) = None
-spare (Closing v C7) = None
+spare _ = None
 
 -- a program mentions a version: it is about it, has just read it, or announces it
 abbrev pub Mentions : Seat → Mark → Type 0
@@ -103,25 +62,8 @@ Mentions x v = (about x.position ≡ Some v) ⊎ ((spare x.position ≡ Some v) 
 
 -- the serial that was current when an open began, 0 elsewhere
 abbrev pub since : Position → ℕ
-since Idle = 0
-since (Opening n u O1) = n
-since (Opening n u O2) = n
-since (Opening n u O3) = n
-since (Opening n u (O4 round)) = n
-since (Opening n u (O5 w round)) = n
-since (Opening n u (O6 round)) = n
-since (Open v) = 0
-since (Offering r over i F1) = 0
-since (Offering r over i (F2 x)) = 0
-since (Offering r over i F3) = 0
-since (Offered v) = 0
-since (Closing v C1) = 0
-since (Closing v C2) = 0
-since (Closing v C3) = 0
-since (Closing v (C4 x)) = 0
-since (Closing v C5) = 0
-since (Closing v (C6 x)) = 0
-since (Closing v C7) = 0
+since (Opening n u at) = n
+since _ = 0
 
 -- how far an open is: about to take the flag off (O3), about to read V (O4), or with a version read from V (w at O5, u at O6)
 pub data Opener : Type 0 where
@@ -132,25 +74,11 @@ pub data Opener : Type 0 where
 
 -- how far the open of a program is
 abbrev pub opener : Position → Opener
-opener Idle = calm
-opener (Opening since u O1) = calm
-opener (Opening since u O2) = calm
 opener (Opening since u O3) = ready
 opener (Opening since u (O4 round)) = seeking round
 opener (Opening since u (O5 w round)) = found w round
 opener (Opening since u (O6 round)) = found u round
-opener (Open v) = calm
-opener (Offering r over i F1) = calm
-opener (Offering r over i (F2 x)) = calm
-opener (Offering r over i F3) = calm
-opener (Offered v) = calm
-opener (Closing v C1) = calm
-opener (Closing v C2) = calm
-opener (Closing v C3) = calm
-opener (Closing v (C4 x)) = calm
-opener (Closing v C5) = calm
-opener (Closing v (C6 x)) = calm
-opener (Closing v C7) = calm
+opener _ = calm
 
 -- an open that one who offers over the current version v has passed: in round 1, and what it read is v
 abbrev pub settled : Mark → Opener → Bool
@@ -177,25 +105,10 @@ pub data Offerer : Type 0 where
 
 -- how far the offer of a program is, where there are `all` programs: F3 has passed them all
 abbrev pub offerer : ℕ → Position → Offerer
-offerer all Idle = aside
-offerer all (Opening since u O1) = aside
-offerer all (Opening since u O2) = aside
-offerer all (Opening since u O3) = aside
-offerer all (Opening since u (O4 round)) = aside
-offerer all (Opening since u (O5 w round)) = aside
-offerer all (Opening since u (O6 round)) = aside
-offerer all (Open v) = aside
 offerer all (Offering r over i F1) = seeks over i
 offerer all (Offering r over i (F2 x)) = owns r over i x
 offerer all (Offering r over i F3) = owns r over i all
-offerer all (Offered v) = aside
-offerer all (Closing v C1) = aside
-offerer all (Closing v C2) = aside
-offerer all (Closing v C3) = aside
-offerer all (Closing v (C4 x)) = aside
-offerer all (Closing v C5) = aside
-offerer all (Closing v (C6 x)) = aside
-offerer all (Closing v C7) = aside
+offerer all _ = aside
 
 -- the slot that an offer owns
 abbrev pub owned_in : Offerer → Option ℕ
@@ -224,44 +137,18 @@ pub data Closer : Type 0 where
 
 -- how far the close of a program is, where there are `all` programs: C5 and C7 have passed them all
 abbrev pub closer : ℕ → Position → Closer
-closer all Idle = stays
-closer all (Opening since u O1) = stays
-closer all (Opening since u O2) = stays
-closer all (Opening since u O3) = stays
-closer all (Opening since u (O4 round)) = stays
-closer all (Opening since u (O5 w round)) = stays
-closer all (Opening since u (O6 round)) = stays
-closer all (Open v) = stays
-closer all (Offering r over i F1) = stays
-closer all (Offering r over i (F2 x)) = stays
-closer all (Offering r over i F3) = stays
-closer all (Offered v) = stays
-closer all (Closing v C1) = stays
 closer all (Closing v C2) = checks v
 closer all (Closing v C3) = past v
 closer all (Closing v (C4 x)) = pends v x
 closer all (Closing v C5) = pends v all
 closer all (Closing v (C6 x)) = sweeps v x
 closer all (Closing v C7) = sweeps v all
+closer all _ = stays
 
 -- slots and programs that a position names are there
 abbrev pub ranged : ℕ → Position → Bool
-ranged all Idle = true
-ranged all (Opening since u O1) = true
-ranged all (Opening since u O2) = true
-ranged all (Opening since u O3) = true
-ranged all (Opening since u (O4 round)) = true
-ranged all (Opening since u (O5 w round)) = true
-ranged all (Opening since u (O6 round)) = true
-ranged all (Open v) = true
-ranged all (Offering r over i F1) = nat_le i (3 * all)
 ranged all (Offering r over i (F2 x)) = nat_le i (3 * all) && nat_lt x all
-ranged all (Offering r over i F3) = nat_le i (3 * all)
-ranged all (Offered v) = true
-ranged all (Closing v C1) = true
-ranged all (Closing v C2) = true
-ranged all (Closing v C3) = true
+ranged all (Offering r over i _) = nat_le i (3 * all)
 ranged all (Closing v (C4 x)) = nat_lt x all
-ranged all (Closing v C5) = true
 ranged all (Closing v (C6 x)) = nat_lt x all
-ranged all (Closing v C7) = true
+ranged all _ = true
