@@ -1,5 +1,5 @@
 -- A new keeper's state, read from arrays that may be longer.
-use Rattle.std.proofs.Common.{◌≡◌, ℕ, zero, suc, ◌+◌, ◌*◌, ◌≤◌, List, ◌∷◌, take, replicate, Some, None, Option, refl, ap, ◌∙◌, add-one, arith}
+use Rattle.std.proofs.Common.{◌≡◌, ℕ, zero, suc, ◌*◌, ◌≤◌, List, ◌∷◌, take, replicate, Some, None, Option, refl, ap, ◌∙◌, add-one, arith}
 use Rattle.announcement_theory.specs.declared.slot.Stored.{Stored}
 use Rattle.announcement_theory.specs.declared.seat.Seat.{Seat}
 use Rattle.announcement_theory.specs.declared.slot.Status.TheVariants.{Usable}

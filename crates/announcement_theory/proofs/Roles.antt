@@ -4,11 +4,11 @@ use Rattle.announcement_theory.specs.declared.mark.Mark.{Mark}
 use Rattle.announcement_theory.specs.declared.announcement.Announcement.{Announcement}
 use Rattle.announcement_theory.specs.declared.announcement.Announcement.TheVariants as announcement
 use Rattle.announcement_theory.specs.declared.position.Position.{Position}
-use Rattle.announcement_theory.specs.declared.position.Position.TheVariants.{Idle, Opening, Open, Offering, Offered, Closing}
-use Rattle.announcement_theory.specs.declared.position.OpenLabel.TheVariants.{O1, O2, O3, O4, O5, O6}
+use Rattle.announcement_theory.specs.declared.position.Position.TheVariants.{Idle, Opening, Offering, Closing}
+use Rattle.announcement_theory.specs.declared.position.OpenLabel.TheVariants.{O1, O3}
 use Rattle.announcement_theory.specs.declared.position.OfferLabel.{OfferLabel}
 use Rattle.announcement_theory.specs.declared.position.OfferLabel.TheVariants.{F1, F2, F3}
-use Rattle.announcement_theory.specs.declared.position.CloseLabel.TheVariants.{C1, C2, C3, C4, C5, C6, C7}
+use Rattle.announcement_theory.specs.declared.position.CloseLabel.TheVariants.{C1}
 use Rattle.announcement_theory.specs.Views.{silent, asking, holding, manner, fits, about, since, Opener, calm, ready, seeking, found, opener, offerer, over_in, Closer, stays, checks, past, pends, sweeps, closer}
 use Rattle.announcement_theory.proofs.Basics.{false_true, some_same, none_some, holding_plain, silent_empty}
 

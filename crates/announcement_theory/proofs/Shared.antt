@@ -4,10 +4,9 @@ use Rattle.std.proofs.lemmas.Bool.Decides.{nat_tests}
 use Rattle.announcement_theory.specs.declared.mark.Mark.{Mark}
 use Rattle.announcement_theory.specs.declared.announcement.Announcement.TheVariants as announcement
 use Rattle.announcement_theory.specs.declared.position.Position.{Position}
-use Rattle.announcement_theory.specs.declared.position.Position.TheVariants.{Idle, Opening, Open, Offering, Offered, Closing}
-use Rattle.announcement_theory.specs.declared.position.OpenLabel.TheVariants.{O1, O2, O3, O4, O5, O6}
-use Rattle.announcement_theory.specs.declared.position.OfferLabel.TheVariants.{F1, F2, F3}
-use Rattle.announcement_theory.specs.declared.position.CloseLabel.TheVariants.{C1, C2, C3, C4, C5, C6, C7}
+use Rattle.announcement_theory.specs.declared.position.Position.TheVariants.{Opening, Closing}
+use Rattle.announcement_theory.specs.declared.position.OpenLabel.TheVariants.{O2, O3, O4, O5, O6}
+use Rattle.announcement_theory.specs.declared.position.CloseLabel.TheVariants.{C1}
 use Rattle.announcement_theory.specs.Tests.{is_mark}
 use Rattle.announcement_theory.specs.Views.{asking, manner, since, aside, offerer}
 use Rattle.announcement_theory.specs.Shares.{Past, hopes, lost, below, used, share_of, past_of}
