@@ -3,14 +3,14 @@ ghost use Rattle.announcement_theory.specs.declared.announcement.Announcement.Th
 ghost use Rattle.announcement_theory.specs.declared.position.Position.TheVariants.{Closing, Idle};
 ghost use Rattle.announcement_theory.specs.declared.position.CloseLabel.TheVariants.{C2, C4, C6};
 ghost use Rattle.announcement_theory.specs.declared.slot.Status.TheVariants.{Frozen, Pending};
-ghost use Rattle.announcement_theory.specs.State.{seat, stored};
+ghost use Rattle.announcement_theory.specs.State.{seat};
 ghost use Rattle.announcement_theory.specs.Tests.{restated};
 ghost use Rattle.announcement_theory.specs.Next.{fill, go_to, goes, put, step_at, stepped};
 ghost use Rattle.board.specs.Boards.{state_of};
 ghost use Rattle.board.specs.Steps.{Took};
 
 use crate::board::Board;
-use crate::marks::frozen;
+use crate::marks::{restated, serial_in};
 use announcement_theory::{Announcement, CloseLabel, Mark, Position, Status, Stored};
 use keeper::Outcome;
 
@@ -35,44 +35,24 @@ impl Board {
         ensures { Took (step_at (state_of self.old) p (Closing version at)) (state_of self.new) result }
     {
         let slot = self.slot_at(version.slot);
-        match (at, slot) {
+        let serial = serial_in(slot);
+        match (at, slot.map(|held| held.status)) {
             (CloseLabel::C1, _) => self.gives_back(p, version),
             (CloseLabel::C2, _) if self.current == version => self.leaves(p),
             (CloseLabel::C2, _) => self.closes_at(p, version, CloseLabel::C3),
-            (
-                CloseLabel::C3,
-                Some(
-                    Stored {
-                        serial,
-                        root,
-                        status: Status::Usable,
-                    },
-                ),
-            ) if serial == version.serial => self.pends(p, version, root),
-            (
-                CloseLabel::C3,
-                Some(
-                    Stored {
-                        serial,
-                        status: Status::Frozen,
-                        ..
-                    },
-                ),
-            ) if serial == version.serial => self.scans(p, version),
+            (CloseLabel::C3, Some(Status::Usable)) if serial == version.serial => {
+                self.pends(p, version, slot)
+            }
+            (CloseLabel::C3, Some(Status::Frozen)) if serial == version.serial => {
+                self.scans(p, version)
+            }
             (CloseLabel::C3, _) => self.leaves(p),
             (CloseLabel::C4 { program }, _) => self.bind_step(p, version, program),
             (CloseLabel::C5, _) => self.freezes(p, version, slot),
             (CloseLabel::C6 { program }, _) => self.scan_step(p, version, program),
-            (
-                CloseLabel::C7,
-                Some(
-                    Stored {
-                        serial,
-                        status: Status::Frozen,
-                        ..
-                    },
-                ),
-            ) if serial == version.serial => self.hands_out(p, version),
+            (CloseLabel::C7, Some(Status::Frozen)) if serial == version.serial => {
+                self.hands_out(p, version)
+            }
             (CloseLabel::C7, _) => self.leaves(p),
         }
     }
@@ -92,19 +72,11 @@ impl Board {
         self.goes(p, Position::Closing { version, at })
     }
 
-    // A usable slot becomes pending, and programs that announced its version are helped.
-    fn pends(&mut self, p: u32, version: Mark, root: u32) -> Outcome
-        ensures { Took (goes (fill (state_of self.old) version.slot (Some (stored version.serial root Pending))) p (Closing version (C4 0))) (state_of self.new) result }
+    // The slot becomes pending, and programs that announced its version are helped.
+    fn pends(&mut self, p: u32, version: Mark, held: Option<Stored>) -> Outcome
+        ensures { Took (goes (fill (state_of self.old) version.slot (restated Pending held)) p (Closing version (C4 0))) (state_of self.new) result }
     {
-        let serial = version.serial;
-        self.fill(
-            version.slot,
-            Some(Stored {
-                serial,
-                root,
-                status: Status::Pending,
-            }),
-        );
+        self.fill(version.slot, restated(held, Status::Pending));
         self.closes_at(p, version, CloseLabel::C4 { program: 0 })
     }
 
@@ -119,7 +91,7 @@ impl Board {
     fn freezes(&mut self, p: u32, version: Mark, held: Option<Stored>) -> Outcome
         ensures { Took (goes (fill (state_of self.old) version.slot (restated Frozen held)) p (Closing version (C6 0))) (state_of self.new) result }
     {
-        self.fill(version.slot, frozen(held));
+        self.fill(version.slot, restated(held, Status::Frozen));
         self.scans(p, version)
     }
 

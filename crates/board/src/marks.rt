@@ -1,6 +1,5 @@
 ghost use Rattle.std.specs.Prelude.{◌≡◌};
 ghost use Rattle.announcement_theory.specs.Tests.{version_in, serial_in, restated};
-ghost use Rattle.announcement_theory.specs.declared.slot.Status.TheVariants.{Frozen};
 
 use announcement_theory::{Announcement, Mark, Status, Stored};
 
@@ -22,12 +21,9 @@ pub(crate) fn serial_in(slot: Option<Stored>) -> u32
     slot.map_or(0, |stored| stored.serial)
 }
 
-// The slot, frozen.
-pub(crate) fn frozen(slot: Option<Stored>) -> Option<Stored>
-    ensures { result ≡ restated Frozen slot }
+// The slot with another status.
+pub(crate) fn restated(slot: Option<Stored>, status: Status) -> Option<Stored>
+    ensures { result ≡ restated status slot }
 {
-    slot.map(|stored| Stored {
-        status: Status::Frozen,
-        ..stored
-    })
+    slot.map(|stored| Stored { status, ..stored })
 }

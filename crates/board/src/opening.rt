@@ -2,7 +2,7 @@ ghost use Rattle.keeper.specs.declared.outcome.Outcome.TheVariants.{GoesOn};
 ghost use Rattle.announcement_theory.specs.declared.announcement.Announcement.TheVariants as announcement;
 ghost use Rattle.announcement_theory.specs.declared.position.Position.TheVariants.{Opening};
 ghost use Rattle.announcement_theory.specs.declared.position.OpenLabel.TheVariants.{O4};
-ghost use Rattle.announcement_theory.specs.declared.position.Round.TheVariants.{Second};
+ghost use Rattle.announcement_theory.specs.declared.position.Round.TheVariants.{First, Second};
 ghost use Rattle.announcement_theory.specs.State.{seat};
 ghost use Rattle.announcement_theory.specs.Next.{goes, opens_on, put, step_at, stepped};
 ghost use Rattle.board.specs.Boards.{state_of};
@@ -72,7 +72,14 @@ impl Board {
         self.goes_announcing(p, position, Announcement::Help(u))
     }
 
-    // An open goes into its second round.
+    // An open whose version was replaced goes into its first round, and from there into its second.
+    fn first_round(&mut self, p: u32, since: u32, u: Mark) -> Outcome
+        ensures { Took (goes (state_of self.old) p (Opening since u (O4 First))) (state_of self.new) result }
+    {
+        let round = Round::First;
+        self.opens_at(p, since, u, OpenLabel::O4 { round })
+    }
+
     fn second_round(&mut self, p: u32, since: u32, u: Mark) -> Outcome
         ensures { Took (goes (state_of self.old) p (Opening since u (O4 Second))) (state_of self.new) result }
     {
@@ -85,22 +92,21 @@ impl Board {
         ensures { Took (step_at (state_of self.old) p (Opening since u at)) (state_of self.new) result }
     {
         let announced = self.seat_at(p).announced;
-        let w = self.current;
+        let current = self.current;
         match at {
             OpenLabel::O1 => self.asks_at(p, since, u, OpenLabel::O2),
-            OpenLabel::O2 if w == u => self.opens_at(p, since, u, OpenLabel::O3),
-            OpenLabel::O2 => {
-                let round = Round::First;
-                self.opens_at(p, since, u, OpenLabel::O4 { round })
-            }
+            OpenLabel::O2 if current == u => self.opens_at(p, since, u, OpenLabel::O3),
+            OpenLabel::O2 => self.first_round(p, since, u),
             OpenLabel::O3 if announced == Announcement::Help(u) => {
                 self.opens_on(p, Announcement::Plain(u))
             }
-            OpenLabel::O4 { round } => self.opens_at(p, since, u, OpenLabel::O5 { w, round }),
+            OpenLabel::O4 { round } => {
+                self.opens_at(p, since, u, OpenLabel::O5 { w: current, round })
+            }
             OpenLabel::O5 { w, round } if announced == Announcement::Help(u) => {
                 self.asks_at(p, since, w, OpenLabel::O6 { round })
             }
-            OpenLabel::O6 { .. } if w == u => self.opens_at(p, since, u, OpenLabel::O3),
+            OpenLabel::O6 { .. } if current == u => self.opens_at(p, since, u, OpenLabel::O3),
             OpenLabel::O6 {
                 round: Round::First,
             } => self.second_round(p, since, u),
