@@ -222,37 +222,37 @@ module _ (s : State) (g : Good s) (p : ℕ) (h : p < s.programs) where
   f3_done r over i e false c = stale_done (Offering r over i F3) r over i s.programs e refl refl (λ a. refl) c
 
   -- the next program, or the next label after the last one
-  next_done : (at next last : Position) (x : ℕ) → position_at s p ≡ at → owned next ≡ owned at → owned last ≡ owned at
-      → stage_from mine next ≡ stage_from mine at → stage_from mine last ≡ stage_from mine at
-      → (x + 1 < s.programs → left_at s.programs next < left_at s.programs at)
-      → (s.programs ≤ x + 1 → left_at s.programs last < left_at s.programs at)
-      → (b : Bool) → ltb (x + 1) s.programs ≡ b → Does s p (goes s p (cond b next last))
-  next_done at next last x e o q st su less more true l = goes_on s g p h (seat at mine) (seat next mine) (seat_at_is at e) o st
+  next_done : {A : Type 0} (f : A → Position) (at : Position) (next last : A) (x : ℕ) → position_at s p ≡ at → owned (f next) ≡ owned at → owned (f last) ≡ owned at
+      → stage_from mine (f next) ≡ stage_from mine at → stage_from mine (f last) ≡ stage_from mine at
+      → (x + 1 < s.programs → left_at s.programs (f next) < left_at s.programs at)
+      → (s.programs ≤ x + 1 → left_at s.programs (f last) < left_at s.programs at)
+      → (b : Bool) → ltb (x + 1) s.programs ≡ b → Does s p (goes s p (f (cond b next last)))
+  next_done f at next last x e o q st su less more true l = goes_on s g p h (seat at mine) (seat (f next) mine) (seat_at_is at e) o st
       (less (ltb-true (x + 1) s.programs l))
-  next_done at next last x e o q st su less more false l = goes_on s g p h (seat at mine) (seat last mine) (seat_at_is at e) q su
+  next_done f at next last x e o q st su less more false l = goes_on s g p h (seat at mine) (seat (f last) mine) (seat_at_is at e) q su
       (more (ltb-false (x + 1) s.programs l))
 
   -- the same, after x was bound to w
-  bind_done : (at next last : Position) (x : ℕ) (u w : Mark) → position_at s p ≡ at → x < s.programs → (x ≡ p → ⊥)
+  bind_done : {A : Type 0} (f : A → Position) (at : Position) (next last : A) (x : ℕ) (u w : Mark) → position_at s p ≡ at → x < s.programs → (x ≡ p → ⊥)
       → announced_at s x ≡ announcement.Help u
       → since (position_at s x) ≤ w.serial → w.serial ≤ V.serial → 0 < times w.serial (kept_of s)
-      → owned next ≡ owned at → owned last ≡ owned at
-      → ((a : Announcement) → stage_from a next ≡ stage_from a at) → ((a : Announcement) → stage_from a last ≡ stage_from a at)
-      → (x + 1 < s.programs → left_at s.programs next < left_at s.programs at)
-      → (s.programs ≤ x + 1 → left_at s.programs last < left_at s.programs at)
-      → (b : Bool) → ltb (x + 1) s.programs ≡ b → Does s p (goes (announce s x (announcement.Plain w)) p (cond b next last))
-  bind_done at next last x u w e l ne asked from to there o q st su less more b t =
-      subst (λ a. Does s p (stepped (put (announce s x (announcement.Plain w)) p (seat (cond b next last) a)) GoesOn)) (sym same) (go b t)
+      → owned (f next) ≡ owned at → owned (f last) ≡ owned at
+      → ((a : Announcement) → stage_from a (f next) ≡ stage_from a at) → ((a : Announcement) → stage_from a (f last) ≡ stage_from a at)
+      → (x + 1 < s.programs → left_at s.programs (f next) < left_at s.programs at)
+      → (s.programs ≤ x + 1 → left_at s.programs (f last) < left_at s.programs at)
+      → (b : Bool) → ltb (x + 1) s.programs ≡ b → Does s p (goes (announce s x (announcement.Plain w)) p (f (cond b next last)))
+  bind_done f at next last x u w e l ne asked from to there o q st su less more b t =
+      subst (λ a. Does s p (stepped (put (announce s x (announcement.Plain w)) p (seat (f (cond b next last)) a)) GoesOn)) (sym same) (go b t)
     where
       same : announced_at (announce s x (announcement.Plain w)) p ≡ mine
       same = ap (λ y. y.announced) (at_other s x (seat (position_at s x) (announcement.Plain w)) (omega (arith, l, g.sized.3)) p
           (λ (k : p ≡ x). ne (sym k)))
 
       go : (b : Bool) → ltb (x + 1) s.programs ≡ b → Does s p
-          (stepped (put (announce s x (announcement.Plain w)) p (seat (cond b next last) mine)) GoesOn)
-      go true t = binds s g p h x l ne u w asked (seat at mine) (seat next mine) (seat_at_is at e) o from to there (st mine)
+          (stepped (put (announce s x (announcement.Plain w)) p (seat (f (cond b next last)) mine)) GoesOn)
+      go true t = binds s g p h x l ne u w asked (seat at mine) (seat (f next) mine) (seat_at_is at e) o from to there (st mine)
           (less (ltb-true (x + 1) s.programs t))
-      go false t = binds s g p h x l ne u w asked (seat at mine) (seat last mine) (seat_at_is at e) q from to there (su mine)
+      go false t = binds s g p h x l ne u w asked (seat at mine) (seat (f last) mine) (seat_at_is at e) q from to there (su mine)
           (more (ltb-false (x + 1) s.programs t))
 
   -- what x asks for lies between its beginning and now
@@ -262,9 +262,9 @@ module _ (s : State) (g : Good s) (p : ℕ) (h : p < s.programs) where
   f2_done : (r : ℕ) (over : Mark) (i x : ℕ) → position_at s p ≡ Offering r over i (F2 x) → (b c : Bool) → flagged (announced_at s x) ≡ b → is_mark V over ≡ c
       → Does s p (cond b
       (cond c
-      (goes (announce s x (announcement.Plain over)) p (next_or s.programs x (Offering r over i (F2 (x + 1))) (Offering r over i F3)))
+      (goes (announce s x (announcement.Plain over)) p (Offering r over i (next_or s.programs x (F2 (x + 1)) F3)))
       (stales s p over i))
-      (goes s p (next_or s.programs x (Offering r over i (F2 (x + 1))) (Offering r over i F3))))
+      (goes s p (Offering r over i (next_or s.programs x (F2 (x + 1)) F3))))
   f2_done r over i x e = go
     where
       a : mine ≡ announcement.Plain over
@@ -276,27 +276,27 @@ module _ (s : State) (g : Good s) (p : ℕ) (h : p < s.programs) where
       go : (b c : Bool) → flagged (announced_at s x) ≡ b → is_mark V over ≡ c
           → Does s p (cond b
           (cond c
-          (goes (announce s x (announcement.Plain over)) p (next_or s.programs x (Offering r over i (F2 (x + 1))) (Offering r over i F3)))
+          (goes (announce s x (announcement.Plain over)) p (Offering r over i (next_or s.programs x (F2 (x + 1)) F3)))
           (stales s p over i))
-          (goes s p (next_or s.programs x (Offering r over i (F2 (x + 1))) (Offering r over i F3))))
+          (goes s p (Offering r over i (next_or s.programs x (F2 (x + 1)) F3))))
       go true true f c =
           let asked = flag_on (announced_at s x) f in
           let range = asked_range x asked.0 asked.1 in
           let is = mark_same V over c in
           let serial_is : V.serial ≡ over.serial = ap (λ v. v.serial) is in
-          bind_done (Offering r over i (F2 x)) (Offering r over i (F2 (x + 1))) (Offering r over i F3) x asked.0 over e below_all
+          bind_done (Offering r over i) (Offering r over i (F2 x)) (F2 (x + 1)) F3 x asked.0 over e below_all
           (λ (k : x ≡ p). clash (flagged (announced_at s x)) f (ap (λ q. flagged (announced_at s q)) k ∙ ap flagged a))
           asked.1 (omega (arith, range.0, range.1)) (omega arith)
           (mentioned_times s g p over (says_mentions s p over a) (g.held p over a))
           refl refl (λ b. refl) (λ b. refl) (λ l. omega arith) (λ l. omega (arith, below_all)) (ltb (x + 1) s.programs) refl
       go true false f c = stale_done (Offering r over i (F2 x)) r over i x e refl refl (λ b. refl) c
-      go false c f d = next_done (Offering r over i (F2 x)) (Offering r over i (F2 (x + 1))) (Offering r over i F3) x e refl refl refl refl
+      go false c f d = next_done (Offering r over i) (Offering r over i (F2 x)) (F2 (x + 1)) F3 x e refl refl refl refl
           (λ l. omega arith) (λ l. omega (arith, below_all)) (ltb (x + 1) s.programs) refl
 
   c4_done : (v : Mark) (x : ℕ) → position_at s p ≡ Closing v (C4 x) → (b : Bool) → asks v (announced_at s x) ≡ b
       → Does s p (cond b
-      (goes (announce s x (announcement.Plain v)) p (next_or s.programs x (Closing v (C4 (x + 1))) (Closing v C5)))
-      (goes s p (next_or s.programs x (Closing v (C4 (x + 1))) (Closing v C5))))
+      (goes (announce s x (announcement.Plain v)) p (Closing v (next_or s.programs x (C4 (x + 1)) C5)))
+      (goes s p (Closing v (next_or s.programs x (C4 (x + 1)) C5))))
   c4_done v x e b f =
       let below_all : x < s.programs = ltb-true x s.programs (ranged_at s g p h (Closing v (C4 x)) e) in
       go b f below_all
@@ -306,17 +306,17 @@ module _ (s : State) (g : Good s) (p : ℕ) (h : p < s.programs) where
 
       go : (b : Bool) → asks v (announced_at s x) ≡ b → x < s.programs
           → Does s p (cond b
-          (goes (announce s x (announcement.Plain v)) p (next_or s.programs x (Closing v (C4 (x + 1))) (Closing v C5)))
-          (goes s p (next_or s.programs x (Closing v (C4 (x + 1))) (Closing v C5))))
+          (goes (announce s x (announcement.Plain v)) p (Closing v (next_or s.programs x (C4 (x + 1)) C5)))
+          (goes s p (Closing v (next_or s.programs x (C4 (x + 1)) C5))))
       go true f below_all =
           let asked = asks_help v (announced_at s x) f in
           let range = asked_range x v asked in
-          bind_done (Closing v (C4 x)) (Closing v (C4 (x + 1))) (Closing v C5) x v v e below_all
+          bind_done (Closing v) (Closing v (C4 x)) (C4 (x + 1)) C5 x v v e below_all
           (λ (k : x ≡ p). clash (asks v (announced_at s x)) f (ap (λ q. asks v (announced_at s q)) k ∙ ap (asks v) a))
           asked range.0 range.1
           (mentioned_times s g p v (inl (ap about e)) (g.pended p v x (ap (closer s.programs) e)).0)
           refl refl (λ b. refl) (λ b. refl) (λ l. omega arith) (λ l. omega arith) (ltb (x + 1) s.programs) refl
-      go false f below_all = next_done (Closing v (C4 x)) (Closing v (C4 (x + 1))) (Closing v C5) x e refl refl refl refl
+      go false f below_all = next_done (Closing v) (Closing v (C4 x)) (C4 (x + 1)) C5 x e refl refl refl refl
           (λ l. omega arith) (λ l. omega arith) (ltb (x + 1) s.programs) refl
 
   -- a close ends with nothing
@@ -329,11 +329,11 @@ module _ (s : State) (g : Good s) (p : ℕ) (h : p < s.programs) where
   c2_done v e false c = on_opening (Closing v C2) (Closing v C3) e refl refl refl (omega arith)
 
   c6_done : (v : Mark) (x : ℕ) → position_at s p ≡ Closing v (C6 x) → (b : Bool) → bears v (announced_at s x) ≡ b
-      → Does s p (cond b (stepped (go_to s p Idle) Nothing) (goes s p (next_or s.programs x (Closing v (C6 (x + 1))) (Closing v C7))))
+      → Does s p (cond b (stepped (go_to s p Idle) Nothing) (goes s p (Closing v (next_or s.programs x (C6 (x + 1)) C7))))
   c6_done v x e true f = ends_close (Closing v (C6 x)) v e refl (λ a. refl)
   c6_done v x e false f =
       let below_all : x < s.programs = ltb-true x s.programs (ranged_at s g p h (Closing v (C6 x)) e) in
-      next_done (Closing v (C6 x)) (Closing v (C6 (x + 1))) (Closing v C7) x e refl refl refl refl (λ l. omega arith) (λ l. omega arith) (ltb (x + 1) s.programs) refl
+      next_done (Closing v) (Closing v (C6 x)) (C6 (x + 1)) C7 x e refl refl refl refl (λ l. omega arith) (λ l. omega arith) (ltb (x + 1) s.programs) refl
 
   -- a status changes, and the close goes on
   restate_done : (at to : Position) (v : Mark) (st : Status) → position_at s p ≡ at → Holds s v → owned at ≡ None → owned to ≡ None

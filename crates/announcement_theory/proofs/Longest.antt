@@ -29,11 +29,11 @@ round_left all n c u First = refl
 round_left all n c u Second = refl
 
 -- the next program, or the last label
-next_left : (all x a b : ℕ) (next last : Position) → x < all → (x + 1 < all → left_at all next ≡ a) → (all ≤ x + 1 → left_at all last ≡ a) → b ≡ 1 + a
-    → b ≡ 1 + largest (left_at all (next_or all x next last) ∷ [])
-next_left all x a b next last h less more e = go (ltb (x + 1) all) refl
+next_left : {A : Type 0} (left : A → ℕ) (all x a b : ℕ) (next last : A) → x < all → (x + 1 < all → left next ≡ a) → (all ≤ x + 1 → left last ≡ a)
+    → b ≡ 1 + a → b ≡ 1 + largest (left (next_or all x next last) ∷ [])
+next_left left all x a b next last h less more e = go (ltb (x + 1) all) refl
   where
-    go : (t : Bool) → ltb (x + 1) all ≡ t → b ≡ 1 + max (left_at all (cond t next last)) 0
+    go : (t : Bool) → ltb (x + 1) all ≡ t → b ≡ 1 + max (left (cond t next last)) 0
     go true t = omega (arith, less (ltb-true (x + 1) all t))
     go false t = omega (arith, more (ltb-false (x + 1) all t))
 
@@ -56,15 +56,15 @@ longest all c (Open v) l m = false_true m
 longest all c (Offering r over i F1) l m = search_left all r over i (leb-true i (3 * all) l) (ltb i (3 * all)) refl
 longest all c (Offering r over i (F2 x)) l m =
     let h : x < all = ltb-true x all (and_parts (leb i (3 * all)) (ltb x all) l).1 in
-    next_left all x (all - x) (all + 1 - x) (Offering r over i (F2 (x + 1))) (Offering r over i F3) h (λ k. omega arith) (λ k. omega arith) (omega arith)
+    next_left (λ at. left_at all (Offering r over i at)) all x (all - x) (all + 1 - x) (F2 (x + 1)) F3 h (λ k. omega arith) (λ k. omega arith) (omega arith)
 longest all c (Offering r over i F3) l m = refl
 longest all c (Offered v) l m = false_true m
 longest all c (Closing v (C4 x)) l m =
     let h : x < all = ltb-true x all l in
-    next_left all x (2 * all + 1 - x) (2 * all + 2 - x) (Closing v (C4 (x + 1))) (Closing v C5) h (λ k. omega arith) (λ k. omega arith) (omega arith)
+    next_left (λ at. left_at all (Closing v at)) all x (2 * all + 1 - x) (2 * all + 2 - x) (C4 (x + 1)) C5 h (λ k. omega arith) (λ k. omega arith) (omega arith)
 longest all c (Closing v (C6 x)) l m =
     let h : x < all = ltb-true x all l in
-    next_left all x (all - x) (all + 1 - x) (Closing v (C6 (x + 1))) (Closing v C7) h (λ k. omega arith) (λ k. omega arith) (omega arith)
+    next_left (λ at. left_at all (Closing v at)) all x (all - x) (all + 1 - x) (C6 (x + 1)) C7 h (λ k. omega arith) (λ k. omega arith) (omega arith)
 longest all c (Closing v _) l m = omega arith
 
 pub ended : Ended
@@ -200,16 +200,16 @@ module _ (s : State) (p : ℕ) (h : p < length s.seats) where
   into (Opening n u (O6 r)) m = into_o6 n u r (is_mark s.current u)
   into (Open v) m = false_true m
   into (Offering r over i F1) m = into_f1 r over i (slot_at s i)
-  into (Offering r over i (F2 x)) m = into_f2 over i x (next_or s.programs x (Offering r over i (F2 (x + 1))) (Offering r over i F3)) (flagged (announced_at s x))
+  into (Offering r over i (F2 x)) m = into_f2 over i x (Offering r over i (next_or s.programs x (F2 (x + 1)) F3)) (flagged (announced_at s x))
       (is_mark s.current over)
   into (Offering r over i F3) m = into_f3 over i (is_mark s.current over)
   into (Offered v) m = false_true m
   into (Closing v C1) m = λ e. inl (there s (seat (Closing v C2) announcement.Empty) h)
   into (Closing v C2) m = into_c2 v (is_mark s.current v)
   into (Closing v C3) m = into_c3 v (slot_at s v.slot)
-  into (Closing v (C4 x)) m = into_c4 v x (next_or s.programs x (Closing v (C4 (x + 1))) (Closing v C5)) (asks v (announced_at s x))
+  into (Closing v (C4 x)) m = into_c4 v x (Closing v (next_or s.programs x (C4 (x + 1)) C5)) (asks v (announced_at s x))
   into (Closing v C5) m = λ e. inl (there (fill s v.slot (restated Frozen (slot_at s v.slot))) (seat (Closing v (C6 0)) (announced_at s p)) h)
-  into (Closing v (C6 x)) m = into_c6 (next_or s.programs x (Closing v (C6 (x + 1))) (Closing v C7)) (bears v (announced_at s x))
+  into (Closing v (C6 x)) m = into_c6 (Closing v (next_or s.programs x (C6 (x + 1)) C7)) (bears v (announced_at s x))
   into (Closing v C7) m = into_c7 v (slot_at s v.slot)
 
 pub leads : Leads
@@ -301,10 +301,10 @@ module _ (all : ℕ) where
   way_f1 r over i to false l (inl e) = subst (Way all (Offering r over i F1)) (sym e) (way_f1_f2 r over i)
   way_f1 r over i to false l (inr e) = absurd e
 
-  way_f2 : (r : ℕ) (over : Mark) (i x : ℕ) → Way all (Offering r over i (F2 x)) (next_or all x (Offering r over i (F2 (x + 1))) (Offering r over i F3))
+  way_f2 : (r : ℕ) (over : Mark) (i x : ℕ) → Way all (Offering r over i (F2 x)) (Offering r over i (next_or all x (F2 (x + 1)) F3))
   way_f2 r over i x =
       let at = Offering r over i (F2 x) in
-      let next = next_or all x (Offering r over i (F2 (x + 1))) (Offering r over i F3) in
+      let next = Offering r over i (next_or all x (F2 (x + 1)) F3) in
       let s = lone all over [] (seat at announcement.Empty) in
       way all at next s refl refl (goes s 0 next)
       (ap (λ a. cond (flagged a) (cond (is_mark over over) (goes (announce s x (announcement.Plain over)) 0 next) (stales s 0 over i)) (goes s 0 next))
@@ -333,16 +333,16 @@ module _ (all : ℕ) where
       (ap (looks s 0 v) (get_or-replicate (suc v.slot) v.slot held None (omega arith))
       ∙ ap (λ b. cond b (goes s 0 (Closing v (C6 0))) (stepped (go_to s 0 Idle) Nothing)) (eq-eqb v.serial v.serial refl)) refl refl
 
-  way_c4 : (v : Mark) (x : ℕ) → Way all (Closing v (C4 x)) (next_or all x (Closing v (C4 (x + 1))) (Closing v C5))
+  way_c4 : (v : Mark) (x : ℕ) → Way all (Closing v (C4 x)) (Closing v (next_or all x (C4 (x + 1)) C5))
   way_c4 v x =
-      let next = next_or all x (Closing v (C4 (x + 1))) (Closing v C5) in
+      let next = Closing v (next_or all x (C4 (x + 1)) C5) in
       let s = lone all v [] (seat (Closing v (C4 x)) announcement.Empty) in
       way all (Closing v (C4 x)) next s refl refl (goes s 0 next)
       (ap (λ a. cond (asks v a) (goes (announce s x (announcement.Plain v)) 0 next) (goes s 0 next)) (quiet all v [] (Closing v (C4 x)) x)) refl refl
 
-  way_c6 : (v : Mark) (x : ℕ) → Way all (Closing v (C6 x)) (next_or all x (Closing v (C6 (x + 1))) (Closing v C7))
+  way_c6 : (v : Mark) (x : ℕ) → Way all (Closing v (C6 x)) (Closing v (next_or all x (C6 (x + 1)) C7))
   way_c6 v x =
-      let next = next_or all x (Closing v (C6 (x + 1))) (Closing v C7) in
+      let next = Closing v (next_or all x (C6 (x + 1)) C7) in
       let s = lone all v [] (seat (Closing v (C6 x)) announcement.Empty) in
       way all (Closing v (C6 x)) next s refl refl (goes s 0 next)
       (ap (λ a. cond (bears v a) (stepped (go_to s 0 Idle) Nothing) (goes s 0 next)) (quiet all v [] (Closing v (C6 x)) x)) refl refl

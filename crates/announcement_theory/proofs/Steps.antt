@@ -121,17 +121,17 @@ module _ (s : State) (g : Good s) (p : ℕ) (h : p < s.programs) where
       go false l = told s (Offered over) (announcement.Plain over) a (f1_end_good s g p h r over i is)
 
   f2_next_step : (r : ℕ) (over : Mark) (i x : ℕ) → seat_at s p ≡ seat (Offering r over i (F2 x)) (announcement.Plain over) → flagged (announced_at s x) ≡ false
-      → (b : Bool) → ltb (x + 1) s.programs ≡ b → Good (put s p (seat (cond b (Offering r over i (F2 (x + 1))) (Offering r over i F3)) (announcement.Plain over)))
+      → (b : Bool) → ltb (x + 1) s.programs ≡ b → Good (put s p (seat (Offering r over i (cond b (F2 (x + 1)) F3)) (announcement.Plain over)))
   f2_next_step r over i x e a true l = f2_next_good s g p h r over i x e a (ltb-true (x + 1) s.programs l)
   f2_next_step r over i x e a false l = f2_last_good s g p h r over i x e a (ltb-false (x + 1) s.programs l)
 
   c4_next_step : (v : Mark) (x : ℕ) → seat_at s p ≡ seat (Closing v (C4 x)) announcement.Empty → asks v (announced_at s x) ≡ false
-      → (b : Bool) → ltb (x + 1) s.programs ≡ b → Good (put s p (seat (cond b (Closing v (C4 (x + 1))) (Closing v C5)) announcement.Empty))
+      → (b : Bool) → ltb (x + 1) s.programs ≡ b → Good (put s p (seat (Closing v (cond b (C4 (x + 1)) C5)) announcement.Empty))
   c4_next_step v x e a true l = c4_next_good s g p h v x e a (ltb-true (x + 1) s.programs l)
   c4_next_step v x e a false l = c4_last_good s g p h v x e a (ltb-false (x + 1) s.programs l)
 
   c6_next_step : (v : Mark) (x : ℕ) → seat_at s p ≡ seat (Closing v (C6 x)) announcement.Empty → bears v (announced_at s x) ≡ false
-      → (b : Bool) → ltb (x + 1) s.programs ≡ b → Good (put s p (seat (cond b (Closing v (C6 (x + 1))) (Closing v C7)) announcement.Empty))
+      → (b : Bool) → ltb (x + 1) s.programs ≡ b → Good (put s p (seat (Closing v (cond b (C6 (x + 1)) C7)) announcement.Empty))
   c6_next_step v x e a true l = c6_next_good s g p h v x e a (ltb-true (x + 1) s.programs l)
   c6_next_step v x e a false l = c6_last_good s g p h v x e a (ltb-false (x + 1) s.programs l)
 
@@ -204,9 +204,9 @@ module _ (s : State) (g : Good s) (p : ℕ) (h : p < s.programs) where
       s.current over ≡ c
       → Good (cond b
       (cond c
-      (goes (announce s x (announcement.Plain over)) p (next_or s.programs x (Offering r over i (F2 (x + 1))) (Offering r over i F3)))
+      (goes (announce s x (announcement.Plain over)) p (Offering r over i (next_or s.programs x (F2 (x + 1)) F3)))
       (stales s p over i))
-      (goes s p (next_or s.programs x (Offering r over i (F2 (x + 1))) (Offering r over i F3)))).after
+      (goes s p (Offering r over i (next_or s.programs x (F2 (x + 1)) F3)))).after
   f2_step r over i x e = go
     where
       a : announced_at s p ≡ announcement.Plain over
@@ -221,9 +221,9 @@ module _ (s : State) (g : Good s) (p : ℕ) (h : p < s.programs) where
       go : (b c : Bool) → flagged (announced_at s x) ≡ b → is_mark s.current over ≡ c
           → Good (cond b
           (cond c
-          (goes (announce s x (announcement.Plain over)) p (next_or s.programs x (Offering r over i (F2 (x + 1))) (Offering r over i F3)))
+          (goes (announce s x (announcement.Plain over)) p (Offering r over i (next_or s.programs x (F2 (x + 1)) F3)))
           (stales s p over i))
-          (goes s p (next_or s.programs x (Offering r over i (F2 (x + 1))) (Offering r over i F3)))).after
+          (goes s p (Offering r over i (next_or s.programs x (F2 (x + 1)) F3)))).after
       go true true f c =
           let asked = flag_on (announced_at s x) f in
           let ne : x ≡ p → ⊥ = λ (k : x ≡ p). clash (flagged (announced_at s x)) f (ap (λ q. flagged (announced_at s q)) k ∙ ap flagged a) in
@@ -232,18 +232,18 @@ module _ (s : State) (g : Good s) (p : ℕ) (h : p < s.programs) where
           let g1 : Good s1 = subst (λ v. Good (announce s x (announcement.Plain v))) (mark_same s.current over c)
           (bind_current_good s g x below_all asked.0 asked.1) in
           let same = apart_from x new below_all ne in
-          subst (λ y. Good (put s1 p (seat (next_or s.programs x (Offering r over i (F2 (x + 1))) (Offering r over i F3)) y))) (sym (ap (λ y. y.announced) same ∙ a))
+          subst (λ y. Good (put s1 p (seat (Offering r over i (next_or s.programs x (F2 (x + 1)) F3)) y))) (sym (ap (λ y. y.announced) same ∙ a))
           (f2_next_step s1 g1 p h r over i x (same ∙ is)
           (ap (λ y. flagged y.announced) (at_same s x new (omega (arith, g.sized.3, below_all)))) (ltb (x + 1) s.programs) refl)
       go true false f c = told s g p h (fill s i None) (Offered over) (announcement.Plain over) a
           (f2_stale_good s g p h r over i x is (mark_flip over s.current ∙ c))
-      go false c f d = told s g p h s (next_or s.programs x (Offering r over i (F2 (x + 1))) (Offering r over i F3)) (announcement.Plain over) a
+      go false c f d = told s g p h s (Offering r over i (next_or s.programs x (F2 (x + 1)) F3)) (announcement.Plain over) a
           (f2_next_step s g p h r over i x is f (ltb (x + 1) s.programs) refl)
 
   c4_step : (v : Mark) (x : ℕ) → position_at s p ≡ Closing v (C4 x) → (b : Bool) → asks v (announced_at s x) ≡ b
       → Good (cond b
-      (goes (announce s x (announcement.Plain v)) p (next_or s.programs x (Closing v (C4 (x + 1))) (Closing v C5)))
-      (goes s p (next_or s.programs x (Closing v (C4 (x + 1))) (Closing v C5)))).after
+      (goes (announce s x (announcement.Plain v)) p (Closing v (next_or s.programs x (C4 (x + 1)) C5)))
+      (goes s p (Closing v (next_or s.programs x (C4 (x + 1)) C5)))).after
   c4_step v x e = go
     where
       a : announced_at s p ≡ announcement.Empty
@@ -257,8 +257,8 @@ module _ (s : State) (g : Good s) (p : ℕ) (h : p < s.programs) where
 
       go : (b : Bool) → asks v (announced_at s x) ≡ b
           → Good (cond b
-          (goes (announce s x (announcement.Plain v)) p (next_or s.programs x (Closing v (C4 (x + 1))) (Closing v C5)))
-          (goes s p (next_or s.programs x (Closing v (C4 (x + 1))) (Closing v C5)))).after
+          (goes (announce s x (announcement.Plain v)) p (Closing v (next_or s.programs x (C4 (x + 1)) C5)))
+          (goes s p (Closing v (next_or s.programs x (C4 (x + 1)) C5)))).after
       go true f =
           let asked = asks_help v (announced_at s x) f in
           let ne : x ≡ p → ⊥ = λ (k : x ≡ p). clash (asks v (announced_at s x)) f (ap (λ q. asks v (announced_at s q)) k ∙ ap (asks v) a) in
@@ -266,10 +266,10 @@ module _ (s : State) (g : Good s) (p : ℕ) (h : p < s.programs) where
           let s1 = announce s x (announcement.Plain v) in
           let g1 : Good s1 = bind_pending_good s g x below_all v asked p x (ap (closer s.programs) e) in
           let same = apart_from x new below_all ne in
-          subst (λ y. Good (put s1 p (seat (next_or s.programs x (Closing v (C4 (x + 1))) (Closing v C5)) y))) (sym (ap (λ y. y.announced) same ∙ a))
+          subst (λ y. Good (put s1 p (seat (Closing v (next_or s.programs x (C4 (x + 1)) C5)) y))) (sym (ap (λ y. y.announced) same ∙ a))
           (c4_next_step s1 g1 p h v x (same ∙ is)
           (ap (λ y. asks v y.announced) (at_same s x new (omega (arith, g.sized.3, below_all)))) (ltb (x + 1) s.programs) refl)
-      go false f = told s g p h s (next_or s.programs x (Closing v (C4 (x + 1))) (Closing v C5)) announcement.Empty a
+      go false f = told s g p h s (Closing v (next_or s.programs x (C4 (x + 1)) C5)) announcement.Empty a
           (c4_next_step s g p h v x is f (ltb (x + 1) s.programs) refl)
 
   -- the other labels with a test
@@ -324,13 +324,13 @@ module _ (s : State) (g : Good s) (p : ℕ) (h : p < s.programs) where
       told s g p h s (Closing v C3) announcement.Empty a (c2_go_good s g p h v (seat_is s p (Closing v C2) announcement.Empty e a) c)
 
   c6_step : (v : Mark) (x : ℕ) → position_at s p ≡ Closing v (C6 x) → (b : Bool) → bears v (announced_at s x) ≡ b
-      → Good (cond b (stepped (go_to s p Idle) Nothing) (goes s p (next_or s.programs x (Closing v (C6 (x + 1))) (Closing v C7)))).after
+      → Good (cond b (stepped (go_to s p Idle) Nothing) (goes s p (Closing v (next_or s.programs x (C6 (x + 1)) C7)))).after
   c6_step v x e true f =
       let a = empty_at s g p h (Closing v (C6 x)) e refl in
       told s g p h s Idle announcement.Empty a (c6_end_good s g p h v x (seat_is s p (Closing v (C6 x)) announcement.Empty e a) f)
   c6_step v x e false f =
       let a = empty_at s g p h (Closing v (C6 x)) e refl in
-      told s g p h s (next_or s.programs x (Closing v (C6 (x + 1))) (Closing v C7)) announcement.Empty a
+      told s g p h s (Closing v (next_or s.programs x (C6 (x + 1)) C7)) announcement.Empty a
       (c6_next_step s g p h v x (seat_is s p (Closing v (C6 x)) announcement.Empty e a) f (ltb (x + 1) s.programs) refl)
 
   step_at_good : (at : Position) → position_at s p ≡ at → Good (step_at s p at).after

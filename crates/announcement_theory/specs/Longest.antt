@@ -27,13 +27,13 @@ successors all c (Opening n u (O4 r)) = Opening n u (O5 c r) ∷ []
 successors all c (Opening n u (O5 w r)) = Opening n w (O6 r) ∷ []
 successors all c (Opening n u (O6 r)) = rounds n u r
 successors all c (Offering r over i F1) = Offering r over i (F2 0) ∷ cond (nat_lt i (3 * all)) (Offering r over (i + 1) F1 ∷ []) []
-successors all c (Offering r over i (F2 x)) = next_or all x (Offering r over i (F2 (x + 1))) (Offering r over i F3) ∷ []
+successors all c (Offering r over i (F2 x)) = Offering r over i (next_or all x (F2 (x + 1)) F3) ∷ []
 successors all c (Closing v C1) = Closing v C2 ∷ []
 successors all c (Closing v C2) = Closing v C3 ∷ []
 successors all c (Closing v C3) = Closing v (C4 0) ∷ Closing v (C6 0) ∷ []
-successors all c (Closing v (C4 x)) = next_or all x (Closing v (C4 (x + 1))) (Closing v C5) ∷ []
+successors all c (Closing v (C4 x)) = Closing v (next_or all x (C4 (x + 1)) C5) ∷ []
 successors all c (Closing v C5) = Closing v (C6 0) ∷ []
-successors all c (Closing v (C6 x)) = next_or all x (Closing v (C6 (x + 1))) (Closing v C7) ∷ []
+successors all c (Closing v (C6 x)) = Closing v (next_or all x (C6 (x + 1)) C7) ∷ []
 successors all c _ = []
 
 -- the position is one of a list

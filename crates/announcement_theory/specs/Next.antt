@@ -76,7 +76,7 @@ abbrev pub opens_on : State → ℕ → Announcement → Stepped
 opens_on s p a = stepped (put s p (seat (Open (version_in a)) a)) (Opened (version_in a).serial)
 
 -- the operation goes on, over the next program, or after the last one at another label
-abbrev pub next_or : ℕ → ℕ → Position → Position → Position
+abbrev pub next_or : {A : Type 0} → ℕ → ℕ → A → A → A
 next_or programs x next last = cond (nat_lt (x + 1) programs) next last
 
 -- an offer gives up: its own slot i is emptied
@@ -136,9 +136,9 @@ step_at s p (Offering r over i F1) = searches s p r over i (slot_at s i)
 step_at s p (Offering r over i (F2 x)) =
     cond (flagged (announced_at s x))
     (cond (is_mark s.current over)
-    (goes (announce s x (announcement.Plain over)) p (next_or s.programs x (Offering r over i (F2 (x + 1))) (Offering r over i F3)))
+    (goes (announce s x (announcement.Plain over)) p (Offering r over i (next_or s.programs x (F2 (x + 1)) F3)))
     (stales s p over i))
-    (goes s p (next_or s.programs x (Offering r over i (F2 (x + 1))) (Offering r over i F3)))
+    (goes s p (Offering r over i (next_or s.programs x (F2 (x + 1)) F3)))
 step_at s p (Offering r over i F3) =
     cond (is_mark s.current over)
     (stepped (go_to (advance s (mark (serial_in (slot_at s i)) i)) p (Offered over)) (Accepted (serial_in (slot_at s i))))
@@ -149,13 +149,13 @@ step_at s p (Closing v C2) = cond (is_mark s.current v) (stepped (go_to s p Idle
 step_at s p (Closing v C3) = looks s p v (slot_at s v.slot)
 step_at s p (Closing v (C4 x)) =
     cond (asks v (announced_at s x))
-    (goes (announce s x (announcement.Plain v)) p (next_or s.programs x (Closing v (C4 (x + 1))) (Closing v C5)))
-    (goes s p (next_or s.programs x (Closing v (C4 (x + 1))) (Closing v C5)))
+    (goes (announce s x (announcement.Plain v)) p (Closing v (next_or s.programs x (C4 (x + 1)) C5)))
+    (goes s p (Closing v (next_or s.programs x (C4 (x + 1)) C5)))
 step_at s p (Closing v C5) = goes (fill s v.slot (restated Frozen (slot_at s v.slot))) p (Closing v (C6 0))
 step_at s p (Closing v (C6 x)) =
     cond (bears v (announced_at s x))
     (stepped (go_to s p Idle) Nothing)
-    (goes s p (next_or s.programs x (Closing v (C6 (x + 1))) (Closing v C7)))
+    (goes s p (Closing v (next_or s.programs x (C6 (x + 1)) C7)))
 step_at s p (Closing v C7) = hands s p v (slot_at s v.slot)
 
 -- a step of program p where it stands

@@ -1,5 +1,4 @@
-ghost use Rattle.std.specs.Prelude.{◌≡◌, ℕ, ◌+◌, ◌<◌};
-ghost use Rattle.announcement_theory.specs.declared.mark.Mark.{Mark};
+ghost use Rattle.std.specs.Prelude.{◌≡◌, ◌+◌, ◌<◌};
 ghost use Rattle.announcement_theory.specs.declared.position.Position.TheVariants.{Offering};
 ghost use Rattle.announcement_theory.specs.declared.position.OfferLabel.TheVariants.{F1, F2, F3};
 ghost use Rattle.announcement_theory.specs.Next.{go_to, goes, next_or, stales, step_at, stepped};
@@ -88,7 +87,7 @@ impl Board {
 
     // The label after a program was helped or passed: the next program, after the last one F3.
     fn after_help(&self, program: u32) -> OfferLabel
-        ensures { (r i : ℕ) (over : Mark) → Offering r over i result ≡ next_or self.now.programs program (Offering r over i (F2 (program + 1))) (Offering r over i F3) }
+        ensures { result ≡ next_or self.now.programs program (F2 (program + 1)) F3 }
     {
         match program {
             next if next < self.programs.saturating_sub(1) => OfferLabel::F2 { program: next + 1 },
