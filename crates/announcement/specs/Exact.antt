@@ -8,7 +8,7 @@ use Rattle.keeper.specs.declared.outcome.Outcome.{Outcome}
 use Rattle.keeper.specs.declared.fault.Fault.{Fault}
 use Rattle.keeper.specs.declared.fault.Refusal.TheVariants.{NoProgram, StageForbids, LastSerial}
 use Rattle.keeper.specs.Stages.{has, idle, opened, closable, moving}
-use Rattle.keeper.specs.Refusals.{fault}
+use Rattle.keeper.specs.Refusals.{Seated, fault}
 use Rattle.keeper.specs.Meaning.{Meaning, stage_of}
 use Rattle.keeper.specs.Effects.{answer, stage_answer, root_answer, root_of}
 use Rattle.keeper.proofs.Faults.{in_range, open_meets, publish_meets, publish_last, publish_allowed, close_meets, step_meets}
@@ -32,9 +32,19 @@ good k = surely (state_in k) k.always
 pub kept : (w v : State) → w ≡ v → Good v → Always w
 kept w v e g = subst Always (sym e) (always v g)
 
-module _ (k : Announcing) (p q : ℕ) (at : p ≡ q) (within : p < k.board.programs) (st : Stage) (is : st ≡ stage_in (seat_at (state_in k) p)) where
+-- the program that is seated
+seated_below : (p q n : ℕ) → Seated n q (Ok p) → p < n
+seated_below p q n seat = subst (λ x. x < n) (sym seat.0) seat.1
+
+module _ (k : Announcing) (p q : ℕ) (seat : Seated k.board.programs q (Ok p)) (st : Stage) (is : st ≡ stage_in (seat_at (state_in k) p)) where
   abbrev s : State
   s = state_in k
+
+  at : p ≡ q
+  at = seat.0
+
+  within : p < k.board.programs
+  within = seated_below p q k.board.programs seat
 
   abbrev m : Meaning
   m = meaning_of s
@@ -113,7 +123,7 @@ module _ (k : Announcing) (p q : ℕ) (at : p ≡ q) (within : p < k.board.progr
   pub root_none : (f : Fault) → None ≡ has st → f ≡ fault StageForbids → Err f ≡ root_answer m q
   root_none f e why = root_cond (Err f) (ap (root_of m) (sym e) ∙ ap (λ x. Err x) (sym why))
 
-pub label_says : (k : Announcing) (p q : ℕ) → p ≡ q → p < k.board.programs → (o : Option Label) → o ≡ label_of (position_at (state_in k) p) → Ok o ≡ label_answer (state_in k) q
-label_says k p q at within o is =
-    subst (λ (x : ℕ). Ok o ≡ label_answer (state_in k) x) at
-    (sym (ap (λ x. answer x (label_of (position_at (state_in k) p))) (in_range p k.board.programs None within) ∙ ap (λ x. Ok x) (sym is)))
+pub label_says : (k : Announcing) (p q : ℕ) → Seated k.board.programs q (Ok p) → (o : Option Label) → o ≡ label_of (position_at (state_in k) p) → Ok o ≡ label_answer (state_in k) q
+label_says k p q seat o is =
+    subst (λ (x : ℕ). Ok o ≡ label_answer (state_in k) x) seat.0
+    (sym (ap (λ x. answer x (label_of (position_at (state_in k) p))) (in_range p k.board.programs None (seated_below p q k.board.programs seat)) ∙ ap (λ x. Ok x) (sym is)))

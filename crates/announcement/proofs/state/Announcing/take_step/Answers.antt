@@ -5,10 +5,9 @@ use Rattle.announcement.proofs.state.Announcing.take_step.Goals as goal
 
 pub returns-in_err-may_step : goal.returns-in_err-may_step
 returns-in_err-may_step c =
-    let seat = c.in_ok-p.ensures in
     let no = c.in_err-may_step.ensures in
     let x = err_from_is_err_and c.from_residual-in_err-may_step.result c.from_residual-in_err-may_step.ensures.1 in
-    let done = step_refused c.args.self.now _ _ seat.0 (omega (arith, seat)) _ c.stage_of.ensures _ no.0 no.1 in
+    let done = step_refused c.args.self.now _ _ c.in_ok-p.ensures _ c.stage_of.ensures _ no.0 no.1 in
     rw (x.1, x.2) (record { after = done.0; value = done.1 })
 
 -- the current serial is at most the last, which leaves room for one more
@@ -17,13 +16,11 @@ unreachable-requires c = let g = good c.args.self.now in let none = c.in-None.en
 
 pub invariant_of-self : goal.invariant_of-self
 invariant_of-self c =
-    let seat = c.in_ok-p.ensures in
     let took = c.in-Some.ensures.1 in
-    record { always = step_kept c.args.self.now _ _ seat.0 (omega (arith, seat)) _ c.stage_of.ensures _ c.in_ok-may_step.ensures took.0 }
+    record { always = step_kept c.args.self.now _ _ c.in_ok-p.ensures _ c.stage_of.ensures _ c.in_ok-may_step.ensures took.0 }
 
 pub returns : goal.returns
 returns c =
-    let seat = c.in_ok-p.ensures in
     let took = c.in-Some.ensures.1 in
-    let done = step_done c.args.self.now _ _ seat.0 (omega (arith, seat)) _ c.stage_of.ensures _ _ c.in_ok-may_step.ensures took.0 took.1 in
+    let done = step_done c.args.self.now _ _ c.in_ok-p.ensures _ c.stage_of.ensures _ _ c.in_ok-may_step.ensures took.0 took.1 in
     record { after = done.0; value = done.1 }
