@@ -57,7 +57,7 @@ impl Announcing {
         self.stage_of(p).may_open()?;
         let mut board = self.board;
         board.open(p);
-        *self = Announcing { board };
+        self.board = board;
         Ok(())
     }
 
@@ -72,7 +72,7 @@ impl Announcing {
         }
         let mut board = self.board;
         board.publish(p, root);
-        *self = Announcing { board };
+        self.board = board;
         Ok(())
     }
 
@@ -84,7 +84,7 @@ impl Announcing {
         self.stage_of(p).may_close()?;
         let mut board = self.board;
         board.close(p);
-        *self = Announcing { board };
+        self.board = board;
         Ok(())
     }
 
@@ -97,10 +97,11 @@ impl Announcing {
         let mut board = self.board;
         match board.checked_step(p) {
             Some(outcome) => {
-                *self = Announcing { board };
+                self.board = board;
                 Ok(outcome)
             }
-            None => unreachable(),
+            // The current serial is at most the last, which leaves room for one more.
+            None => unreachable!(),
         }
     }
 }
