@@ -1,6 +1,7 @@
 -- F3 over the current version keeps what always holds: the offered version becomes current.
 use Rattle.std.proofs.Common.{◌≡◌, ℕ, ◌+◌, ◌*◌, ◌<◌, ◌≤◌, Bool, true, false, cond, ◌||◌, Some, None, sym, refl, ap, ◌∙◌, subst, inl, ⊎_elim, arith}
 use Rattle.std.proofs.lemmas.Bool.{cases_eq, cases_Bool, or_left, leb-true}
+use Rattle.std.proofs.lemmas.Option.{same_Some}
 use Rattle.announcement_theory.specs.declared.mark.Mark.{Mark}
 use Rattle.announcement_theory.specs.declared.announcement.Announcement.TheVariants as announcement
 use Rattle.announcement_theory.specs.declared.position.Round.TheVariants.{First, Second}
@@ -12,7 +13,7 @@ use Rattle.announcement_theory.specs.Tests.{is_mark, serial_in, pending}
 use Rattle.announcement_theory.specs.Next.{put, advance}
 use Rattle.announcement_theory.specs.Views.{Mentions, Opener, calm, ready, seeking, found, opener, settled, steady, offerer, owned, over_in, past}
 use Rattle.announcement_theory.specs.Invariant.{Kept, waits, Good}
-use Rattle.announcement_theory.proofs.Basics.{false_true, true_false, clash, some_same, none_some, mark_same, same_mark, usable_pending}
+use Rattle.announcement_theory.proofs.Basics.{false_true, true_false, clash, none_some, mark_same, same_mark, usable_pending}
 use Rattle.announcement_theory.proofs.Roles.{offering_about}
 use Rattle.announcement_theory.proofs.Good.{Rest, Sound, OwnsAt, KeptWith, Fits, flag_on, put_good}
 use Rattle.announcement_theory.proofs.Stay.{kept_here, stay}
@@ -104,7 +105,7 @@ module _ (s : State) (g : Good s) (p : ℕ) (h : p < s.programs) (r : ℕ) (over
   }
 
   kept_before : (j : ℕ) → (j ≡ i → ⊥) → KeptWith after p None j → KeptWith s p (Some i) j
-  kept_before j ne k = (k.0, k.1, λ e. ne (sym (some_same i j e)))
+  kept_before j ne k = (k.0, k.1, λ e. ne (sym (same_Some i j e)))
 
   kept_plainly : (j : ℕ) → (j ≡ i → ⊥) → KeptWith after p None j → Kept s j
   kept_plainly j ne k = kept_here s g p j (subst (λ o. KeptWith s p o j) (sym mine) (kept_before j ne k))

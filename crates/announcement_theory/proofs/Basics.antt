@@ -3,6 +3,7 @@ use Rattle.std.proofs.Common.{◌≡◌, ℕ, ◌<◌, ◌≤◌, Bool, true, fa
 use Rattle.std.proofs.lemmas.Bool.{cases_eq, eq-eqb, eqb-true, and_parts, and_from, false≢true, true≢false}
 use Rattle.std.proofs.lemmas.List.{get_or_past}
 use Rattle.std.proofs.lemmas.Bool.Decides.{nat_tests}
+use Rattle.std.proofs.lemmas.Option.{none-some, same_Some}
 use Rattle.announcement_theory.specs.declared.mark.Mark.{Mark}
 use Rattle.announcement_theory.specs.declared.slot.Status.{Status}
 use Rattle.announcement_theory.specs.declared.slot.Status.TheVariants.{Usable, Pending, Frozen}
@@ -27,11 +28,8 @@ true_false e = absurd (true≢false e)
 pub clash : {A : Type 0} (b : Bool) → b ≡ true → b ≡ false → A
 clash b e f = false_true (sym f ∙ e)
 
-pub some_same : {A : Type 0} (a b : A) → Some a ≡ Some b → a ≡ b
-some_same a b e = cc
-
 pub none_some : {A B : Type 0} (a : A) → ◌≡◌ {A = Option A} None (Some a) → B
-none_some a e = let z : ◌≡◌ {A = ℕ} 0 1 = cc in absurd (omega arith)
+none_some a e = absurd (none-some a e)
 
 pub mark_same : (v w : Mark) → is_mark v w ≡ true → v ≡ w
 mark_same v w e =
@@ -109,7 +107,7 @@ pub record Owner (o : Offerer) (i : ℕ) : Type 0 where
 owner_in : (o : Offerer) (i : ℕ) → owned_in o ≡ Some i → Owner o i
 owner_in aside i e = none_some i e
 owner_in (seeks over j) i e = none_some i e
-owner_in (owns r over j f) i e = record { root = r; over = over; passed = f; is = ap (λ k. owns r over k f) (some_same j i e) }
+owner_in (owns r over j f) i e = record { root = r; over = over; passed = f; is = ap (λ k. owns r over k f) (same_Some j i e) }
 
 pub owner_of : (all : ℕ) (at : Position) (i : ℕ) → owned at ≡ Some i → Owner (offerer all at) i
 owner_of all at i e = owner_in (offerer all at) i (owned_is all at ∙ e)

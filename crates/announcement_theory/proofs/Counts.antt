@@ -2,6 +2,7 @@
 use Rattle.std.proofs.Common.{◌≡◌, ℕ, zero, suc, ◌+◌, ◌*◌, ◌<◌, ◌≤◌, Bool, true, false, cond, List, [], ◌∷◌, length, get_or, Some, None, Option, sym, refl, ap, ◌∙◌, subst, ⊎_elim, arith}
 use Rattle.std.proofs.lemmas.Bool.{cases_lt, cases_Bool}
 use Rattle.std.proofs.lemmas.Bool.Decides.{nat_tests}
+use Rattle.std.proofs.lemmas.Option.{same_Some}
 use Rattle.keeper.specs.Totals.{total}
 use Rattle.announcement_theory.specs.declared.mark.Mark.{Mark}
 use Rattle.announcement_theory.specs.declared.announcement.Announcement.{Announcement}
@@ -17,7 +18,7 @@ use Rattle.announcement_theory.specs.Tests.{is_mark, filled, serial_in}
 use Rattle.announcement_theory.specs.Views.{manner, fits, since, offerer, owned, closer}
 use Rattle.announcement_theory.specs.Shares.{Past, whole, hopes, lost, uses, done, below, used, share_of, owned_below, share, accounted, past_of}
 use Rattle.announcement_theory.specs.Invariant.{waits, Good}
-use Rattle.announcement_theory.proofs.Basics.{false_true, some_same, none_some, mark_same, beyond}
+use Rattle.announcement_theory.proofs.Basics.{false_true, none_some, mark_same, beyond}
 use Rattle.announcement_theory.proofs.Roles.{closed}
 use Rattle.announcement_theory.proofs.Stay.{stay}
 use Rattle.announcement_theory.proofs.Shared.{below_most, used_most}
@@ -121,7 +122,7 @@ has_uses _ v e = false_true e
 
 closes_uses : (all : ℕ) (at : Position) (a : Announcement) (v : Mark) → closed (closer all at) ≡ Some v → Uses at a v
 closes_uses all (Closing u C1) a v e = none_some v e
-closes_uses all (Closing u _) a v e = record { extra = 1; is = λ c i. ap (λ y. used c i y 1) (some_same u v e) }
+closes_uses all (Closing u _) a v e = record { extra = 1; is = λ c i. ap (λ y. used c i y 1) (same_Some u v e) }
 closes_uses all _ a v e = none_some v e
 
 module _ (s : State) (g : Good s) (i : ℕ) (full : filled (slot_at s i) ≡ true) where

@@ -2,6 +2,7 @@
 use Rattle.std.proofs.Common.{◌≡◌, ℕ, suc, ◌+◌, ◌*◌, ◌<◌, ◌≤◌, Bool, true, false, cond, eqb, List, [], ◌∷◌, length, get_or, Some, None, Option, sym, refl, ap, ◌∙◌, ⊎_elim, arith}
 use Rattle.std.proofs.lemmas.Bool.{cases_lt, eq-eqb, ne_eqb, eqb-true}
 use Rattle.std.proofs.lemmas.List.{get_or_past}
+use Rattle.std.proofs.lemmas.Option.{same_Some}
 use Rattle.keeper.specs.Totals.{total}
 use Rattle.keeper.proofs.Totals.{total_at}
 use Rattle.announcement_theory.specs.declared.slot.Stored.{Stored}
@@ -10,7 +11,7 @@ use Rattle.announcement_theory.specs.State.{State, unseated, slot_at, position_a
 use Rattle.announcement_theory.specs.Tests.{filled, serial_in, root_in}
 use Rattle.announcement_theory.specs.Views.{owned}
 use Rattle.announcement_theory.specs.Invariant.{Kept, Good}
-use Rattle.announcement_theory.proofs.Basics.{false_true, true_false, some_same, none_some, beyond}
+use Rattle.announcement_theory.proofs.Basics.{false_true, true_false, none_some, beyond}
 use Rattle.keeper.specs.declared.version.Version.{Version}
 use Rattle.keeper.specs.Meaning.{version}
 use Rattle.announcement_theory.specs.Means.{is_slot, owners, entry_in, entry_at}
@@ -50,7 +51,7 @@ module _ (s : State) where
   -- a slot that gives a version is kept
   entry_is : (x : Option Stored) (b : Bool) (v : Version) → entry_in x b ≡ Some v → (filled x ≡ true) × (b ≡ true) × (v ≡ version (serial_in x) (root_in x))
   entry_is None b v e = none_some v e
-  entry_is (Some x) true v e = (refl, refl, sym (some_same (version x.serial x.root) v e))
+  entry_is (Some x) true v e = (refl, refl, sym (same_Some (version x.serial x.root) v e))
   entry_is (Some x) false v e = none_some v e
 
   pub kept_entry : (j : ℕ) (v : Version) → entry_at s j ≡ Some v → Kept s j × (v ≡ version (serial_in (slot_at s j)) (root_in (slot_at s j)))

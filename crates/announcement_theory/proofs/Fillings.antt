@@ -3,6 +3,7 @@ use Rattle.std.proofs.Common.{◌≡◌, ℕ, ◌+◌, ◌*◌, ◌<◌, ◌≤�
 use Rattle.std.proofs.lemmas.Bool.{cases_lt, eqb-true, and_from, lt-ltb, leb-true}
 use Rattle.std.proofs.lemmas.Bool.Decides.{nat_tests}
 use Rattle.std.proofs.lemmas.List.{get_or_past}
+use Rattle.std.proofs.lemmas.Option.{same_Some}
 use Rattle.announcement_theory.specs.declared.mark.Mark.{Mark}
 use Rattle.announcement_theory.specs.declared.slot.Status.TheVariants.{Usable}
 use Rattle.announcement_theory.specs.declared.slot.Stored.{Stored}
@@ -16,7 +17,7 @@ use Rattle.announcement_theory.specs.Next.{put, fill}
 use Rattle.announcement_theory.specs.Views.{about, Mentions, owns, offerer, owned, over_in, Closer, stays, pends, sweeps, closer}
 use Rattle.announcement_theory.specs.Shares.{uses, below, used, share_of, owned_below, share, past_of}
 use Rattle.announcement_theory.specs.Invariant.{Holds, waits_on, Good}
-use Rattle.announcement_theory.proofs.Basics.{false_true, some_same, none_some, mark_self, holds_serial, owner_owns, owner_of}
+use Rattle.announcement_theory.proofs.Basics.{false_true, none_some, mark_self, holds_serial, owner_owns, owner_of}
 use Rattle.announcement_theory.proofs.Roles.{closed, closing_about, offering_about, offering_plain}
 use Rattle.announcement_theory.proofs.Good.{Other, Rest, Sound, OwnsAt, Offers, SaysAt, Says, KeptWith, Fits, known, put_good}
 use Rattle.announcement_theory.proofs.Stay.{stay, still_searched}
@@ -104,7 +105,7 @@ module _ (s : State) (g : Good s) (p : ℕ) (h : p < s.programs) (r : ℕ) (over
         knows = (mine, tt, mine);
         self = λ v m e k. slot_back s i y in_range (λ x. holds v x ≡ true) ⊥ v.slot k
             (λ (f : v.slot ≡ i) u. omega (arith, eqb-true (s.current.serial + 1) v.serial u, (known s p old t.knows v m).to))
-            (λ (ne : v.slot ≡ i → ⊥) _. ne (sym (some_same i v.slot e)));
+            (λ (ne : v.slot ≡ i → ⊥) _. ne (sym (same_Some i v.slot e)));
         offers = record {
           usable = ap usable (slot_same s i y in_range);
           root = ap root_in (slot_same s i y in_range);
@@ -191,7 +192,7 @@ module _ (s : State) (g : Good s) (p : ℕ) (h : p < s.programs) (over : Mark) (
   was_kept j k =
       let ne : j ≡ i → ⊥ = λ (e : j ≡ i). false_true (sym (ap filled (ap (slot_at emptied) e ∙ slot_same s i None in_slots)) ∙ k.0) in (
         ne,
-        (subst (λ x. filled x ≡ true) (slot_other s i None in_slots j ne) k.0, k.1, λ e. ne (some_same j i (sym e ∙ mine_is))),
+        (subst (λ x. filled x ≡ true) (slot_other s i None in_slots j ne) k.0, k.1, λ e. ne (same_Some j i (sym e ∙ mine_is))),
       )
 
   stale_good : closer s.programs old.position ≡ stays → past_of old.position ≡ uses over → Good

@@ -19,11 +19,12 @@ use Rattle.announcement_theory.specs.State.{State, mark, unseated, slot_at, seat
 use Rattle.announcement_theory.specs.Tests.{version_in, serial_in, root_in}
 use Rattle.announcement_theory.specs.Views.{holding, manner, fits, Mentions, since, closer, ranged}
 use Rattle.announcement_theory.specs.Invariant.{Holds, Kept, waits, Good}
-use Rattle.announcement_theory.proofs.Basics.{false_true, some_same, none_some, mark_same, holds_serial, holding_plain, beyond}
+use Rattle.announcement_theory.proofs.Basics.{false_true, none_some, mark_same, holds_serial, holding_plain, beyond}
 use Rattle.announcement_theory.proofs.Roles.{closed}
 use Rattle.announcement_theory.proofs.Waiting.{waits_how, mentioned_kept, current_kept}
 use Rattle.announcement_theory.proofs.Fillings.{says_mentions}
 use Rattle.std.proofs.lemmas.List.{length-map}
+use Rattle.std.proofs.lemmas.Option.{same_Some}
 use Rattle.keeper.specs.declared.version.Version.{Version}
 use Rattle.keeper.specs.declared.stage.Stage.TheVariants as stage
 use Rattle.keeper.specs.Stages.{has, engaged, named, uses}
@@ -46,11 +47,11 @@ pub record Plainly (a : Announcement) (n : ℕ) : Type 0 where
 
 bound_plain : (a : Announcement) (n : ℕ) → bound a ≡ Some n → Plainly a n
 bound_plain announcement.Empty n e = none_some n e
-bound_plain (announcement.Plain v) n e = record { version = v; says = refl; serial = some_same v.serial n e }
+bound_plain (announcement.Plain v) n e = record { version = v; says = refl; serial = same_Some v.serial n e }
 bound_plain (announcement.Help v) n e = none_some n e
 
 held_plain : (a : Announcement) (v : Mark) (n : ℕ) → fits (holding v) a ≡ true → ◌≡◌ {A = Option ℕ} (Some v.serial) (Some n) → Plainly a n
-held_plain a v n l e = record { version = v; says = holding_plain v a l; serial = some_same v.serial n e }
+held_plain a v n l e = record { version = v; says = holding_plain v a l; serial = same_Some v.serial n e }
 
 pub has_plain : (at : Position) (a : Announcement) (n : ℕ) → fits (manner at) a ≡ true → has (stage_from a at) ≡ Some n → Plainly a n
 has_plain (Opening since u at) a n l e = bound_plain a n e
@@ -72,7 +73,7 @@ plain_engaged _ v e = false_true e
 closing_engaged : (all : ℕ) (at : Position) (a : Announcement) (v : Mark) → closed (closer all at) ≡ Some v → engaged (stage_from a at) ≡ Some
     v.serial
 closing_engaged all (Closing u C1) a v e = none_some v e
-closing_engaged all (Closing u _) a v e = ap (λ (y : Mark). Some y.serial) (some_same u v e)
+closing_engaged all (Closing u _) a v e = ap (λ (y : Mark). Some y.serial) (same_Some u v e)
 closing_engaged all _ a v e = none_some v e
 
 in_round_some : (r : Round) (a b : ℕ) → 0 < a → 0 < b → 0 < in_round r a b

@@ -1,5 +1,6 @@
 -- Which views of a position go together.
 use Rattle.std.proofs.Common.{◌≡◌, ℕ, Bool, true, false, Some, None, Option, sym, refl, ap, ◌∙◌, subst, arith}
+use Rattle.std.proofs.lemmas.Option.{same_Some}
 use Rattle.announcement_theory.specs.declared.mark.Mark.{Mark}
 use Rattle.announcement_theory.specs.declared.announcement.Announcement.{Announcement}
 use Rattle.announcement_theory.specs.declared.announcement.Announcement.TheVariants as announcement
@@ -10,7 +11,7 @@ use Rattle.announcement_theory.specs.declared.position.OfferLabel.{OfferLabel}
 use Rattle.announcement_theory.specs.declared.position.OfferLabel.TheVariants.{F1, F2, F3}
 use Rattle.announcement_theory.specs.declared.position.CloseLabel.TheVariants.{C1}
 use Rattle.announcement_theory.specs.Views.{silent, asking, holding, manner, fits, about, since, Opener, calm, ready, seeking, found, opener, offerer, over_in, Closer, stays, checks, past, pends, sweeps, closer}
-use Rattle.announcement_theory.proofs.Basics.{false_true, some_same, none_some, holding_plain, silent_empty}
+use Rattle.announcement_theory.proofs.Basics.{false_true, none_some, holding_plain, silent_empty}
 
 -- a close is past the emptying of its announcement
 abbrev pub closing : Closer → Bool
@@ -34,7 +35,7 @@ over_is all r over i (F2 x) = refl
 over_is all r over i F3 = refl
 
 pub offering_holding : (all : ℕ) (at : Position) (o : Mark) → over_in (offerer all at) ≡ Some o → manner at ≡ holding o
-offering_holding all (Offering r over i at) o e = ap holding (some_same over o (sym (over_is all r over i at) ∙ e))
+offering_holding all (Offering r over i at) o e = ap holding (same_Some over o (sym (over_is all r over i at) ∙ e))
 offering_holding all _ o e = none_some o e
 
 abbrev is_ready : Opener → Bool
