@@ -22,6 +22,7 @@ use Rattle.announcement_theory.specs.Invariant.{Good, Always}
 use Rattle.announcement_theory.proofs.Certain.{surely, always}
 use Rattle.announcement_theory.proofs.Lawful.{stage_at_is, root_had}
 use Rattle.announcement_theory.proofs.Calls.{open_call, publish_call, close_call, step_call}
+use Rattle.board.specs.Steps.{Steps}
 use Rattle.announcement.specs.declared.state.Announcing.{Announcing}
 use Rattle.announcement.specs.Model.{state_in}
 use Rattle.announcement.specs.Calls.{opens, open_answer, publishes, publish_answer, closes, close_answer, steps, step_answer, label_answer}
@@ -108,6 +109,10 @@ module _ (k : Announcing) (p q : ℕ) (seat : Seated k.board.programs q (Ok p)) 
 
   pub step_kept : (w : State) → moving st ≡ true → w ≡ (next.step s p).after → Always w
   step_kept w e after = kept w (next.step s p).after after (step_call s (good k) p within (ap moving here ∙ e)).0
+
+  pub checked_kept : (w : State) (r : Option Outcome) → moving st ≡ true → Steps s p w r → Always w
+  checked_kept w None e took = kept w s took.1 (good k)
+  checked_kept w (Some o) e took = step_kept w e took.1.0
 
   -- the enquiries
   pub stage_says : Ok st ≡ stage_answer m q

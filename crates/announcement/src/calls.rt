@@ -55,9 +55,7 @@ impl Announcing {
     {
         let p = self.seat(program)?;
         self.stage_of(p).may_open()?;
-        let mut board = self.board;
-        board.open(p);
-        self.board = board;
+        self.board.open(p);
         Ok(())
     }
 
@@ -70,9 +68,7 @@ impl Announcing {
         if self.board.current.serial == self.board.last {
             return Err(refused(Refusal::LastSerial));
         }
-        let mut board = self.board;
-        board.publish(p, root);
-        self.board = board;
+        self.board.publish(p, root);
         Ok(())
     }
 
@@ -82,9 +78,7 @@ impl Announcing {
     {
         let p = self.seat(program)?;
         self.stage_of(p).may_close()?;
-        let mut board = self.board;
-        board.close(p);
-        self.board = board;
+        self.board.close(p);
         Ok(())
     }
 
@@ -94,12 +88,8 @@ impl Announcing {
     {
         let p = self.seat(program)?;
         self.stage_of(p).may_step()?;
-        let mut board = self.board;
-        match board.checked_step(p) {
-            Some(outcome) => {
-                self.board = board;
-                Ok(outcome)
-            }
+        match self.board.checked_step(p) {
+            Some(outcome) => Ok(outcome),
             // The current serial is at most the last, which leaves room for one more.
             None => unreachable!(),
         }

@@ -1,6 +1,6 @@
 use Rattle.std.proofs.Common.{arith}
 use Rattle.std.proofs.lemmas.Result.{err_from_is_err_and}
-use Rattle.announcement.specs.Exact.{good, step_refused, step_done, step_kept}
+use Rattle.announcement.specs.Exact.{good, step_refused, step_done, checked_kept}
 use Rattle.announcement.proofs.state.Announcing.take_step.Goals as goal
 
 pub returns-in_err-may_step : goal.returns-in_err-may_step
@@ -16,8 +16,7 @@ unreachable-requires c = let g = good c.args.self.now in let none = c.in-None.en
 
 pub invariant_of-self : goal.invariant_of-self
 invariant_of-self c =
-    let took = c.in-Some.ensures.1 in
-    record { always = step_kept c.args.self.now _ _ c.in_ok-p.ensures _ c.stage_of.ensures _ c.in_ok-may_step.ensures took.0 }
+    record { always = checked_kept c.args.self.now _ _ c.in_ok-p.ensures _ c.stage_of.ensures _ _ c.in_ok-may_step.ensures c.checked_step.ensures }
 
 pub returns : goal.returns
 returns c =
