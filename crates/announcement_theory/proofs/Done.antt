@@ -393,7 +393,6 @@ module _ (s : State) (g : Good s) (p : ℕ) (h : p < s.programs) where
       go (Some x) f = go_on x.serial x.root x.status f
 
   done_at : (at : Position) → position_at s p ≡ at → moving (stage_from mine at) ≡ true → Does s p (step_at s p at)
-  done_at Idle e m = false_true m
   done_at (Opening n u O1) e m = goes_on s g p h (seat (Opening n u O1) announcement.Empty) (seat (Opening n u O2) (announcement.Help u))
       (seat_is s p (Opening n u O1) announcement.Empty e (empty_at s g p h (Opening n u O1) e refl)) refl refl (omega arith)
   done_at (Opening n u O2) e m = o2_done n u e (is_mark V u) refl
@@ -401,11 +400,9 @@ module _ (s : State) (g : Good s) (p : ℕ) (h : p < s.programs) where
   done_at (Opening n u (O4 r)) e m = on_opening (Opening n u (O4 r)) (Opening n u (O5 V r)) e refl refl refl (in_round_less r 6 3 7 4 (omega arith) (omega arith))
   done_at (Opening n u (O5 w r)) e m = o5_done n u w r e (asks u mine) refl
   done_at (Opening n u (O6 r)) e m = o6_done n u r e (is_mark V u) refl
-  done_at (Open v) e m = false_true m
   done_at (Offering r over i F1) e m = f1_done r over i e (slot_at s i) refl
   done_at (Offering r over i (F2 x)) e m = f2_done r over i x e (flagged (announced_at s x)) (is_mark V over) refl refl
   done_at (Offering r over i F3) e m = f3_done r over i e (is_mark V over) refl
-  done_at (Offered v) e m = false_true m
   done_at (Closing v C1) e m = goes_on s g p h (seat (Closing v C1) mine) (seat (Closing v C2) announcement.Empty) (seat_at_is (Closing v C1) e) refl refl (omega arith)
   done_at (Closing v C2) e m = c2_done v e (is_mark V v) refl
   done_at (Closing v C3) e m = c3_done v e (slot_at s v.slot) refl
@@ -414,6 +411,7 @@ module _ (s : State) (g : Good s) (p : ℕ) (h : p < s.programs) where
       (omega arith)
   done_at (Closing v (C6 x)) e m = c6_done v x e (bears v (announced_at s x)) refl
   done_at (Closing v C7) e m = c7_done v e (slot_at s v.slot) refl
+  done_at _ e m = false_true m
 
   -- a step where one is allowed has the effects that a keeper owes
   pub step_done : moving (stage_in (seat_at s p)) ≡ true → StepDone (meaning_of s) p (meaning_of (step s p).after) (step s p).outcome

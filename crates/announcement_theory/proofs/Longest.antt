@@ -191,19 +191,16 @@ module _ (s : State) (p : ℕ) (h : p < length s.seats) where
   into_c7 v (Some x) e = into_c7_on v x.serial x.status e
 
   into : (at : Position) → is_some (label_of at) ≡ true → Into (step_at s p at) (successors s.programs s.current at)
-  into Idle m = false_true m
   into (Opening n u O1) m = λ e. inl (there s (seat (Opening n u O2) (announcement.Help u)) h)
   into (Opening n u O2) m = into_o2 n u (is_mark s.current u)
   into (Opening n u O3) m = into_o3 u (asks u (announced_at s p))
   into (Opening n u (O4 r)) m = λ e. inl (there s (seat (Opening n u (O5 s.current r)) (announced_at s p)) h)
   into (Opening n u (O5 w r)) m = into_o5 n w r (asks u (announced_at s p))
   into (Opening n u (O6 r)) m = into_o6 n u r (is_mark s.current u)
-  into (Open v) m = false_true m
   into (Offering r over i F1) m = into_f1 r over i (slot_at s i)
   into (Offering r over i (F2 x)) m = into_f2 over i x (Offering r over i (next_or s.programs x (F2 (x + 1)) F3)) (flagged (announced_at s x))
       (is_mark s.current over)
   into (Offering r over i F3) m = into_f3 over i (is_mark s.current over)
-  into (Offered v) m = false_true m
   into (Closing v C1) m = λ e. inl (there s (seat (Closing v C2) announcement.Empty) h)
   into (Closing v C2) m = into_c2 v (is_mark s.current v)
   into (Closing v C3) m = into_c3 v (slot_at s v.slot)
@@ -211,6 +208,7 @@ module _ (s : State) (p : ℕ) (h : p < length s.seats) where
   into (Closing v C5) m = λ e. inl (there (fill s v.slot (restated Frozen (slot_at s v.slot))) (seat (Closing v (C6 0)) (announced_at s p)) h)
   into (Closing v (C6 x)) m = into_c6 (Closing v (next_or s.programs x (C6 (x + 1)) C7)) (bears v (announced_at s x))
   into (Closing v C7) m = into_c7 v (slot_at s v.slot)
+  into _ m = false_true m
 
 pub leads : Leads
 leads s p h m e = into s p h (position_at s p) m e
@@ -243,6 +241,15 @@ way all from to s a b st e f g = record {
   leads = ap (λ x. position_at x.after 0) e ∙ g;
 }
 
+-- the one successor, or one of two
+only_to : {all : ℕ} {at next : Position} → Way all at next → (to : Position) → Among to (next ∷ []) → Way all at to
+only_to {all = all} {at = at} way to (inl e) = subst (Way all at) (sym e) way
+only_to way to (inr m) = absurd m
+
+either_to : {all : ℕ} {at next other : Position} → Way all at next → Way all at other → (to : Position) → Among to (next ∷ other ∷ []) → Way all at to
+either_to {all = all} {at = at} way also to (inl e) = subst (Way all at) (sym e) way
+either_to way also to (inr m) = only_to also to m
+
 module _ (all : ℕ) where
   way_o2_o3 : (n : ℕ) (u : Mark) → Way all (Opening n u O2) (Opening n u O3)
   way_o2_o3 n u =
@@ -274,11 +281,8 @@ module _ (all : ℕ) where
       (ap (λ b. cond b (goes s 0 (Opening n u O3)) (again s 0 n u First)) (other_is u)) refl refl
 
   way_rounds : (n : ℕ) (u : Mark) (r : Round) (to : Position) → Among to (rounds n u r) → Way all (Opening n u (O6 r)) to
-  way_rounds n u First to (inl e) = subst (Way all (Opening n u (O6 First))) (sym e) (way_o6_o3 n u First)
-  way_rounds n u First to (inr (inl e)) = subst (Way all (Opening n u (O6 First))) (sym e) (way_o6_o4 n u)
-  way_rounds n u First to (inr (inr e)) = absurd e
-  way_rounds n u Second to (inl e) = subst (Way all (Opening n u (O6 Second))) (sym e) (way_o6_o3 n u Second)
-  way_rounds n u Second to (inr e) = absurd e
+  way_rounds n u First to m = either_to (way_o6_o3 n u First) (way_o6_o4 n u) to m
+  way_rounds n u Second to m = only_to (way_o6_o3 n u Second) to m
 
   way_f1_f1 : (r : ℕ) (over : Mark) (i : ℕ) → ltb i (3 * all) ≡ true → Way all (Offering r over i F1) (Offering r over (i + 1) F1)
   way_f1_f1 r over i l =
@@ -295,11 +299,8 @@ module _ (all : ℕ) where
 
   way_f1 : (r : ℕ) (over : Mark) (i : ℕ) (to : Position) (b : Bool) → ltb i (3 * all) ≡ b
       → Among to (Offering r over i (F2 0) ∷ cond b (Offering r over (i + 1) F1 ∷ []) []) → Way all (Offering r over i F1) to
-  way_f1 r over i to true l (inl e) = subst (Way all (Offering r over i F1)) (sym e) (way_f1_f2 r over i)
-  way_f1 r over i to true l (inr (inl e)) = subst (Way all (Offering r over i F1)) (sym e) (way_f1_f1 r over i l)
-  way_f1 r over i to true l (inr (inr e)) = absurd e
-  way_f1 r over i to false l (inl e) = subst (Way all (Offering r over i F1)) (sym e) (way_f1_f2 r over i)
-  way_f1 r over i to false l (inr e) = absurd e
+  way_f1 r over i to true l m = either_to (way_f1_f2 r over i) (way_f1_f1 r over i l) to m
+  way_f1 r over i to false l m = only_to (way_f1_f2 r over i) to m
 
   way_f2 : (r : ℕ) (over : Mark) (i x : ℕ) → Way all (Offering r over i (F2 x)) (Offering r over i (next_or all x (F2 (x + 1)) F3))
   way_f2 r over i x =
@@ -355,27 +356,17 @@ module _ (all : ℕ) where
       way all from to s refl refl (step s 0) refl k.0 k.1
 
 pub reaches : Reaches
-reaches all c Idle to m = absurd m
-reaches all c (Opening n u O1) to (inl e) = subst (Way all (Opening n u O1)) (sym e) (way_straight all c (Opening n u O1) (Opening n u O2) (refl, refl))
-reaches all c (Opening n u O2) to (inl e) = subst (Way all (Opening n u O2)) (sym e) (way_o2_o3 all n u)
-reaches all c (Opening n u O2) to (inr (inl e)) = subst (Way all (Opening n u O2)) (sym e) (way_o2_o4 all n u)
-reaches all c (Opening n u O2) to (inr (inr m)) = absurd m
-reaches all c (Opening n u O3) to m = absurd m
-reaches all c (Opening n u (O4 r)) to (inl e) = subst (Way all (Opening n u (O4 r))) (sym e) (way_straight all c (Opening n u (O4 r)) (Opening n u (O5 c r)) (refl, refl))
-reaches all c (Opening n u (O5 w r)) to (inl e) = subst (Way all (Opening n u (O5 w r))) (sym e) (way_o5 all n u w r)
+reaches all c (Opening n u O1) to m = only_to (way_straight all c (Opening n u O1) (Opening n u O2) (refl, refl)) to m
+reaches all c (Opening n u O2) to m = either_to (way_o2_o3 all n u) (way_o2_o4 all n u) to m
+reaches all c (Opening n u (O4 r)) to m = only_to (way_straight all c (Opening n u (O4 r)) (Opening n u (O5 c r)) (refl, refl)) to m
+reaches all c (Opening n u (O5 w r)) to m = only_to (way_o5 all n u w r) to m
 reaches all c (Opening n u (O6 r)) to m = way_rounds all n u r to m
-reaches all c (Open v) to m = absurd m
 reaches all c (Offering r over i F1) to m = way_f1 all r over i to (ltb i (3 * all)) refl m
-reaches all c (Offering r over i (F2 x)) to (inl e) = subst (Way all (Offering r over i (F2 x))) (sym e) (way_f2 all r over i x)
-reaches all c (Offering r over i F3) to m = absurd m
-reaches all c (Offered v) to m = absurd m
-reaches all c (Closing v C1) to (inl e) = subst (Way all (Closing v C1)) (sym e) (way_straight all c (Closing v C1) (Closing v C2) (refl, refl))
-reaches all c (Closing v C2) to (inl e) = subst (Way all (Closing v C2)) (sym e) (way_c2 all v)
-reaches all c (Closing v C3) to (inl e) = subst (Way all (Closing v C3)) (sym e) (way_c3_c4 all v)
-reaches all c (Closing v C3) to (inr (inl e)) = subst (Way all (Closing v C3)) (sym e) (way_c3_c6 all v)
-reaches all c (Closing v C3) to (inr (inr m)) = absurd m
-reaches all c (Closing v (C4 x)) to (inl e) = subst (Way all (Closing v (C4 x))) (sym e) (way_c4 all v x)
-reaches all c (Closing v C5) to (inl e) = subst (Way all (Closing v C5)) (sym e) (way_straight all c (Closing v C5) (Closing v (C6 0)) (refl, refl))
-reaches all c (Closing v (C6 x)) to (inl e) = subst (Way all (Closing v (C6 x))) (sym e) (way_c6 all v x)
-reaches all c (Closing v C7) to m = absurd m
-reaches all c _ to (inr m) = absurd m
+reaches all c (Offering r over i (F2 x)) to m = only_to (way_f2 all r over i x) to m
+reaches all c (Closing v C1) to m = only_to (way_straight all c (Closing v C1) (Closing v C2) (refl, refl)) to m
+reaches all c (Closing v C2) to m = only_to (way_c2 all v) to m
+reaches all c (Closing v C3) to m = either_to (way_c3_c4 all v) (way_c3_c6 all v) to m
+reaches all c (Closing v (C4 x)) to m = only_to (way_c4 all v x) to m
+reaches all c (Closing v C5) to m = only_to (way_straight all c (Closing v C5) (Closing v (C6 0)) (refl, refl)) to m
+reaches all c (Closing v (C6 x)) to m = only_to (way_c6 all v x) to m
+reaches all c _ to m = absurd m

@@ -334,18 +334,15 @@ module _ (s : State) (g : Good s) (p : ℕ) (h : p < s.programs) where
       (c6_next_step s g p h v x (seat_is s p (Closing v (C6 x)) announcement.Empty e a) f (ltb (x + 1) s.programs) refl)
 
   step_at_good : (at : Position) → position_at s p ≡ at → Good (step_at s p at).after
-  step_at_good Idle e = g
   step_at_good (Opening n u O1) e = o1_good s g p h n u (seat_is s p (Opening n u O1) announcement.Empty e (empty_at s g p h (Opening n u O1) e refl))
   step_at_good (Opening n u O2) e = o2_step s g p h n u e (is_mark s.current u) refl
   step_at_good (Opening n u O3) e = o3_step n u e (asks u (announced_at s p)) refl
   step_at_good (Opening n u (O4 r)) e = o4_good s g p h n u r (announced_at s p) (seat_is s p (Opening n u (O4 r)) (announced_at s p) e refl)
   step_at_good (Opening n u (O5 w r)) e = o5_step n u w r e (asks u (announced_at s p)) refl
   step_at_good (Opening n u (O6 r)) e = o6_step n u r e (is_mark s.current u) refl
-  step_at_good (Open v) e = g
   step_at_good (Offering r over i F1) e = f1_step s g p h r over i e (slot_at s i) refl
   step_at_good (Offering r over i (F2 x)) e = f2_step r over i x e (flagged (announced_at s x)) (is_mark s.current over) refl refl
   step_at_good (Offering r over i F3) e = f3_step r over i e (is_mark s.current over) refl
-  step_at_good (Offered v) e = g
   step_at_good (Closing v C1) e = c1_good s g p h v (seat_is s p (Closing v C1) (announcement.Plain v) e (plain_at s g p h (Closing v C1) e v refl))
   step_at_good (Closing v C2) e = c2_step v e (is_mark s.current v) refl
   step_at_good (Closing v C3) e = c3_step s g p h v e (slot_at s v.slot) refl
@@ -356,6 +353,7 @@ module _ (s : State) (g : Good s) (p : ℕ) (h : p < s.programs) where
       (c5_good s g p h v (seat_is s p (Closing v C5) announcement.Empty e a))
   step_at_good (Closing v (C6 x)) e = c6_step v x e (bears v (announced_at s x)) refl
   step_at_good (Closing v C7) e = c7_step s g p h v e (slot_at s v.slot) refl
+  step_at_good _ e = g
 
   -- a step of any program keeps what always holds
   pub step_good : Good (step s p).after
