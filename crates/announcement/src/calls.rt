@@ -49,6 +49,7 @@ impl Announcing {
         stage_in(self.board.seat_at(program))
     }
 
+    #[tactic(auto, using(crate::proofs::Says::exact_calls))]
     pub(crate) fn begin_open(&mut self, program: u32) -> Result<(), Fault>
         ensures after { state_in self.new ≡ opens (state_in self.old) program }
         ensures value { result ≡ open_answer (state_in self.old) program }
@@ -59,6 +60,7 @@ impl Announcing {
         Ok(())
     }
 
+    #[tactic(auto, using(crate::proofs::Says::exact_calls))]
     pub(crate) fn begin_publish(&mut self, program: u32, root: u32) -> Result<(), Fault>
         ensures after { state_in self.new ≡ publishes (state_in self.old) program root }
         ensures value { result ≡ publish_answer (state_in self.old) program }
@@ -72,6 +74,7 @@ impl Announcing {
         Ok(())
     }
 
+    #[tactic(auto, using(crate::proofs::Says::exact_calls))]
     pub(crate) fn begin_close(&mut self, program: u32) -> Result<(), Fault>
         ensures after { state_in self.new ≡ closes (state_in self.old) program }
         ensures value { result ≡ close_answer (state_in self.old) program }
@@ -82,6 +85,7 @@ impl Announcing {
         Ok(())
     }
 
+    #[tactic(auto, using(crate::proofs::Says::exact_calls))]
     pub(crate) fn take_step(&mut self, program: u32) -> Result<Outcome, Fault>
         ensures after { state_in self.new ≡ steps (state_in self.old) program }
         ensures value { result ≡ step_answer (state_in self.old) program }

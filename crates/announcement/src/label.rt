@@ -58,6 +58,7 @@ pub(crate) fn label_of(position: Position) -> Option<Label>
 
 impl Announcing {
     // The label at which a program stands: none when it is idle, open or offered.
+    #[tactic(auto, using(crate::specs::Exact::label_says))]
     pub fn label(&self, program: u32) -> Result<Option<Label>, Fault>
         ensures { result ≡ label_answer (state_in self.now) program }
     {

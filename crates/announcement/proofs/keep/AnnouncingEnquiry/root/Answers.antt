@@ -1,10 +1,5 @@
-use Rattle.announcement.specs.Exact.{root_says, root_none}
+use Rattle.announcement.specs.Exact.{root_says}
 use Rattle.announcement.proofs.keep.AnnouncingEnquiry.root.Goals as goal
 
 pub returns-in-Some : goal.returns-in-Some
-returns-in-Some c =
-    root_says c.args.self.now _ _ c.in_ok-p.ensures _ c.stage_of.ensures _ _ c.in-Some.ensures (cc)
-
-pub returns-in-None : goal.returns-in-None
-returns-in-None c =
-    root_none c.args.self.now _ _ c.in_ok-p.ensures _ c.stage_of.ensures _ c.in-None.ensures c.refused.ensures
+returns-in-Some c = root_says c.args.self.now _ _ c.in_ok-p.ensures _ c.stage_of.ensures _ _ c.in-Some.ensures (cc)
