@@ -1,5 +1,5 @@
 -- From the exact state and answer of a call to what the keeper interface says of it.
-use Rattle.std.proofs.Common.{◌≡◌, ℕ, not, Result, sym, ap, ◌∙◌}
+use Rattle.std.proofs.Common.{◌≡◌, ℕ, ◌<◌, arith, not, Result, sym, ap, ◌∙◌}
 use Rattle.std.proofs.lemmas.Bool.{eq-eqb, false≢true}
 use Rattle.keeper.specs.declared.outcome.Outcome.{Outcome}
 use Rattle.keeper.specs.declared.fault.Fault.{Fault}
@@ -11,9 +11,18 @@ use Rattle.announcement_theory.specs.Next as next
 use Rattle.announcement_theory.specs.Means.{meaning_of}
 use Rattle.announcement_theory.specs.Invariant.{Good}
 use Rattle.announcement_theory.proofs.Calls.{open_call, publish_call, close_call, step_call}
+use Rattle.announcement.specs.declared.state.Announcing.{Announcing}
+use Rattle.announcement.specs.Model.{state_in}
+use Rattle.announcement.specs.Exact.{good, open_refused, open_done, open_kept, publish_refused, publish_full, publish_done, close_refused, close_done, close_kept, step_refused, step_done, checked_kept}
 use Rattle.announcement.specs.Calls.{opens, open_answer, publishes, publish_answer, closes, close_answer, steps, step_answer}
 
-module _ (s : State) (g : Good s) (p : ℕ) where
+module _ (k : Announcing) (p : ℕ) where
+  abbrev s : State
+  s = state_in k
+
+  g : Good s
+  g = good k
+
   pub open_says : (w : State) (r : Result (Unit {0}) Fault) → w ≡ opens s p → r ≡ open_answer s p → OpenSays (meaning_of s) p (meaning_of w) r
   open_says w r e f = acts meaning_of (open_fault (meaning_of s) p) s _ w tt r (λ n _. OpenDone (meaning_of s) p n) e f
       (λ none. let h = seated p s.programs _ none in (open_call s g p h (passed _ _ _ (sym (in_range p s.programs _ h) ∙ none))).1)
@@ -34,3 +43,10 @@ module _ (s : State) (g : Good s) (p : ℕ) where
   pub step_says : (w : State) (r : Result Outcome Fault) → w ≡ steps s p → r ≡ step_answer s p → StepSays (meaning_of s) p (meaning_of w) r
   step_says w r e f = acts meaning_of (step_fault (meaning_of s) p) s _ w (next.step s p).outcome r (λ n o. StepDone (meaning_of s) p n o) e f
       (λ none. let h = seated p s.programs _ none in (step_call s g p h (passed _ _ _ (sym (in_range p s.programs _ h) ∙ none))).1)
+
+-- the current serial is at most the last, which leaves room for one more
+pub room : (k : Announcing) → k.board.current.serial < 4294967295
+room k = let g = good k in omega (arith, g.sized, g.reached)
+
+-- how a call is exact: where the stage forbids it, and where it is carried out
+pub ruleset exact_calls = (open_refused, open_done, open_kept, publish_refused, publish_full, publish_done, close_refused, close_done, close_kept, step_refused, step_done, checked_kept, room)

@@ -8,7 +8,7 @@ use Rattle.keeper.specs.declared.outcome.Outcome.{Outcome}
 use Rattle.keeper.specs.declared.fault.Fault.{Fault}
 use Rattle.keeper.specs.declared.fault.Refusal.TheVariants.{NoProgram, StageForbids, LastSerial}
 use Rattle.keeper.specs.Stages.{has, idle, opened, closable, moving}
-use Rattle.keeper.specs.Refusals.{fault}
+use Rattle.keeper.specs.Refusals.{Seated, fault}
 use Rattle.keeper.specs.Meaning.{Meaning, stage_of}
 use Rattle.keeper.specs.Effects.{answer, stage_answer, root_answer, root_of}
 use Rattle.keeper.proofs.Faults.{in_range, open_meets, publish_meets, publish_last, publish_allowed, close_meets, step_meets}
@@ -22,6 +22,7 @@ use Rattle.announcement_theory.specs.Invariant.{Good, Always}
 use Rattle.announcement_theory.proofs.Certain.{surely, always}
 use Rattle.announcement_theory.proofs.Lawful.{stage_at_is, root_had}
 use Rattle.announcement_theory.proofs.Calls.{open_call, publish_call, close_call, step_call}
+use Rattle.board.specs.Steps.{Steps}
 use Rattle.announcement.specs.declared.state.Announcing.{Announcing}
 use Rattle.announcement.specs.Model.{state_in}
 use Rattle.announcement.specs.Calls.{opens, open_answer, publishes, publish_answer, closes, close_answer, steps, step_answer, label_answer}
@@ -32,9 +33,19 @@ good k = surely (state_in k) k.always
 pub kept : (w v : State) → w ≡ v → Good v → Always w
 kept w v e g = subst Always (sym e) (always v g)
 
-module _ (k : Announcing) (p q : ℕ) (at : p ≡ q) (within : p < k.board.programs) (st : Stage) (is : st ≡ stage_in (seat_at (state_in k) p)) where
+-- the program that is seated
+seated_below : (p q n : ℕ) → Seated n q (Ok p) → p < n
+seated_below p q n seat = subst (λ x. x < n) (sym seat.0) seat.1
+
+module _ (k : Announcing) (p q : ℕ) (seat : Seated k.board.programs q (Ok p)) (st : Stage) (is : st ≡ stage_in (seat_at (state_in k) p)) where
   abbrev s : State
   s = state_in k
+
+  at : p ≡ q
+  at = seat.0
+
+  within : p < k.board.programs
+  within = seated_below p q k.board.programs seat
 
   abbrev m : Meaning
   m = meaning_of s
@@ -99,6 +110,10 @@ module _ (k : Announcing) (p q : ℕ) (at : p ≡ q) (within : p < k.board.progr
   pub step_kept : (w : State) → moving st ≡ true → w ≡ (next.step s p).after → Always w
   step_kept w e after = kept w (next.step s p).after after (step_call s (good k) p within (ap moving here ∙ e)).0
 
+  pub checked_kept : (w : State) (r : Option Outcome) → moving st ≡ true → Steps s p w r → Always w
+  checked_kept w None e took = kept w s took.1 (good k)
+  checked_kept w (Some o) e took = step_kept w e took.1.0
+
   -- the enquiries
   pub stage_says : Ok st ≡ stage_answer m q
   stage_says = subst (λ (x : ℕ). Ok st ≡ stage_answer m x) at (sym (ap (λ o. answer o (stage_of m p)) (in_range p s.programs None within) ∙ ap (λ x. Ok x) here))
@@ -113,7 +128,7 @@ module _ (k : Announcing) (p q : ℕ) (at : p ≡ q) (within : p < k.board.progr
   pub root_none : (f : Fault) → None ≡ has st → f ≡ fault StageForbids → Err f ≡ root_answer m q
   root_none f e why = root_cond (Err f) (ap (root_of m) (sym e) ∙ ap (λ x. Err x) (sym why))
 
-pub label_says : (k : Announcing) (p q : ℕ) → p ≡ q → p < k.board.programs → (o : Option Label) → o ≡ label_of (position_at (state_in k) p) → Ok o ≡ label_answer (state_in k) q
-label_says k p q at within o is =
-    subst (λ (x : ℕ). Ok o ≡ label_answer (state_in k) x) at
-    (sym (ap (λ x. answer x (label_of (position_at (state_in k) p))) (in_range p k.board.programs None within) ∙ ap (λ x. Ok x) (sym is)))
+pub label_says : (k : Announcing) (p q : ℕ) → Seated k.board.programs q (Ok p) → (o : Option Label) → o ≡ label_of (position_at (state_in k) p) → Ok o ≡ label_answer (state_in k) q
+label_says k p q seat o is =
+    subst (λ (x : ℕ). Ok o ≡ label_answer (state_in k) x) seat.0
+    (sym (ap (λ x. answer x (label_of (position_at (state_in k) p))) (in_range p k.board.programs None (seated_below p q k.board.programs seat)) ∙ ap (λ x. Ok x) (sym is)))

@@ -2,16 +2,19 @@
 use Rattle.std.specs.Prelude.{◌≡◌, ℕ}
 use Rattle.keeper.specs.declared.version.Declared.{Declared}
 use Rattle.announcement_theory.specs.declared.mark.Mark.{Mark}
-use Rattle.announcement_theory.specs.declared.position.Position.TheVariants.{O1, F1, C1}
+use Rattle.announcement_theory.specs.declared.position.Position.TheVariants.{Opening, Offering, Closing}
+use Rattle.announcement_theory.specs.declared.position.OpenLabel.TheVariants.{O1}
+use Rattle.announcement_theory.specs.declared.position.OfferLabel.TheVariants.{F1}
+use Rattle.announcement_theory.specs.declared.position.CloseLabel.TheVariants.{C1}
 use Rattle.announcement_theory.specs.Means.{left_at}
 use Rattle.announcement_theory.specs.Longest.{Leads, Reaches, Longest, Ended}
 
 -- d is declared where there are `all` programs
 pub record Paces (all : ℕ) (d : Declared) : Type 0 where
   -- what is declared is what is left at the first label
-  pub opening : (since : ℕ) (u : Mark) → left_at all (O1 since u) ≡ d.opening
-  pub offering : (r : ℕ) (over : Mark) → left_at all (F1 r over 0) ≡ d.offering
-  pub closing : (v : Mark) → left_at all (C1 v) ≡ d.closing
+  pub opening : (since : ℕ) (u : Mark) → left_at all (Opening since u O1) ≡ d.opening
+  pub offering : (r : ℕ) (over : Mark) → left_at all (Offering r over 0 F1) ≡ d.offering
+  pub closing : (v : Mark) → left_at all (Closing v C1) ≡ d.closing
   -- at each label the steps left are one more than the largest number of a label that a step can lead to
   pub leads : Leads
   pub reaches : Reaches

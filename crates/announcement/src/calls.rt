@@ -7,7 +7,7 @@ ghost use Rattle.announcement.specs.Model.{state_in, Made};
 
 use crate::stages::stage_in;
 use crate::state::Announcing;
-use announcement_theory::{Announcement, Mark, Position, Seat, Slot, Status};
+use announcement_theory::{Mark, Seat, Status, Stored};
 use board::Board;
 use keeper::{Fault, Outcome, Refusal, Stage, check_limits, refused};
 
@@ -17,22 +17,18 @@ impl Announcing {
         ensures { Made programs last result }
     {
         check_limits(programs, last)?;
-        let idle = Seat {
-            position: Position::Idle,
-            announced: Announcement::Empty,
-        };
-        let mut slots = [Slot::Empty; 25];
-        slots[0] = Slot::Filled {
+        let mut slots = [None; 25];
+        slots[0] = Some(Stored {
             serial: 0,
             root: 0,
             status: Status::Usable,
-        };
+        });
         let board = Board {
             programs,
             last,
             current: Mark { serial: 0, slot: 0 },
             slots,
-            seats: [idle; 8],
+            seats: [Seat::IDLE; 8],
         };
         Ok(Announcing { board })
     }
@@ -53,18 +49,18 @@ impl Announcing {
         stage_in(self.board.seat_at(program))
     }
 
+    #[tactic(auto, using(crate::proofs::Says::exact_calls))]
     pub(crate) fn begin_open(&mut self, program: u32) -> Result<(), Fault>
         ensures after { state_in self.new ≡ opens (state_in self.old) program }
         ensures value { result ≡ open_answer (state_in self.old) program }
     {
         let p = self.seat(program)?;
         self.stage_of(p).may_open()?;
-        let mut board = self.board;
-        board.open(p);
-        *self = Announcing { board };
+        self.board.open(p);
         Ok(())
     }
 
+    #[tactic(auto, using(crate::proofs::Says::exact_calls))]
     pub(crate) fn begin_publish(&mut self, program: u32, root: u32) -> Result<(), Fault>
         ensures after { state_in self.new ≡ publishes (state_in self.old) program root }
         ensures value { result ≡ publish_answer (state_in self.old) program }
@@ -74,37 +70,32 @@ impl Announcing {
         if self.board.current.serial == self.board.last {
             return Err(refused(Refusal::LastSerial));
         }
-        let mut board = self.board;
-        board.publish(p, root);
-        *self = Announcing { board };
+        self.board.publish(p, root);
         Ok(())
     }
 
+    #[tactic(auto, using(crate::proofs::Says::exact_calls))]
     pub(crate) fn begin_close(&mut self, program: u32) -> Result<(), Fault>
         ensures after { state_in self.new ≡ closes (state_in self.old) program }
         ensures value { result ≡ close_answer (state_in self.old) program }
     {
         let p = self.seat(program)?;
         self.stage_of(p).may_close()?;
-        let mut board = self.board;
-        board.close(p);
-        *self = Announcing { board };
+        self.board.close(p);
         Ok(())
     }
 
+    #[tactic(auto, using(crate::proofs::Says::exact_calls))]
     pub(crate) fn take_step(&mut self, program: u32) -> Result<Outcome, Fault>
         ensures after { state_in self.new ≡ steps (state_in self.old) program }
         ensures value { result ≡ step_answer (state_in self.old) program }
     {
         let p = self.seat(program)?;
         self.stage_of(p).may_step()?;
-        let mut board = self.board;
-        match board.checked_step(p) {
-            Some(outcome) => {
-                *self = Announcing { board };
-                Ok(outcome)
-            }
-            None => unreachable(),
+        match self.board.checked_step(p) {
+            Some(outcome) => Ok(outcome),
+            // The current serial is at most the last, which leaves room for one more.
+            None => unreachable!(),
         }
     }
 }

@@ -45,11 +45,13 @@ impl Enquiry for Announcing {
         }
     }
 
+    #[tactic(auto, using(crate::specs::Exact::stage_says))]
     fn stage(&self, program: u32) -> Result<Stage, Fault> {
         let p = self.seat(program)?;
         Ok(self.stage_of(p))
     }
 
+    #[tactic(auto, using(crate::specs::Exact::root_none))]
     fn root(&self, program: u32) -> Result<u32, Fault> {
         let p = self.seat(program)?;
         match self.stage_of(p).has() {

@@ -1,39 +1,64 @@
 ghost use Rattle.std.specs.Prelude.{◌≡◌};
-ghost use Rattle.announcement_theory.specs.Means.{label_of};
+ghost use Rattle.announcement_theory.specs.Means.{open_label, offer_label, close_label, label_of};
 ghost use Rattle.announcement.specs.Calls.{label_answer};
 ghost use Rattle.announcement.specs.Model.{state_in};
 
 use crate::state::Announcing;
-use announcement_theory::{Label, Position};
+use announcement_theory::{CloseLabel, Label, OfferLabel, OpenLabel, Position};
 use keeper::Fault;
 
+fn open_label(at: OpenLabel) -> Label
+    ensures { result ≡ open_label at }
+{
+    match at {
+        OpenLabel::O1 => Label::O1,
+        OpenLabel::O2 => Label::O2,
+        OpenLabel::O3 => Label::O3,
+        OpenLabel::O4 { .. } => Label::O4,
+        OpenLabel::O5 { .. } => Label::O5,
+        OpenLabel::O6 { .. } => Label::O6,
+    }
+}
+
+fn offer_label(at: OfferLabel) -> Label
+    ensures { result ≡ offer_label at }
+{
+    match at {
+        OfferLabel::F1 => Label::F1,
+        OfferLabel::F2 { .. } => Label::F2,
+        OfferLabel::F3 => Label::F3,
+    }
+}
+
+fn close_label(at: CloseLabel) -> Label
+    ensures { result ≡ close_label at }
+{
+    match at {
+        CloseLabel::C1 => Label::C1,
+        CloseLabel::C2 => Label::C2,
+        CloseLabel::C3 => Label::C3,
+        CloseLabel::C4 { .. } => Label::C4,
+        CloseLabel::C5 => Label::C5,
+        CloseLabel::C6 { .. } => Label::C6,
+        CloseLabel::C7 => Label::C7,
+    }
+}
+
 // The label of an operation under way.
-fn label_of(position: Position) -> Option<Label>
+pub(crate) fn label_of(position: Position) -> Option<Label>
     ensures { result ≡ label_of position }
 {
     match position {
-        Position::O1 { .. } => Some(Label::O1),
-        Position::O2 { .. } => Some(Label::O2),
-        Position::O3 { .. } => Some(Label::O3),
-        Position::O4 { .. } => Some(Label::O4),
-        Position::O5 { .. } => Some(Label::O5),
-        Position::O6 { .. } => Some(Label::O6),
-        Position::F1 { .. } => Some(Label::F1),
-        Position::F2 { .. } => Some(Label::F2),
-        Position::F3 { .. } => Some(Label::F3),
-        Position::C1(_) => Some(Label::C1),
-        Position::C2(_) => Some(Label::C2),
-        Position::C3(_) => Some(Label::C3),
-        Position::C4 { .. } => Some(Label::C4),
-        Position::C5(_) => Some(Label::C5),
-        Position::C6 { .. } => Some(Label::C6),
-        Position::C7(_) => Some(Label::C7),
+        Position::Opening { at, .. } => Some(open_label(at)),
+        Position::Offering { at, .. } => Some(offer_label(at)),
+        Position::Closing { at, .. } => Some(close_label(at)),
         Position::Idle | Position::Open(_) | Position::Offered(_) => None,
     }
 }
 
 impl Announcing {
     // The label at which a program stands: none when it is idle, open or offered.
+    #[tactic(auto, using(crate::specs::Exact::label_says))]
     pub fn label(&self, program: u32) -> Result<Option<Label>, Fault>
         ensures { result ≡ label_answer (state_in self.now) program }
     {

@@ -1,14 +1,11 @@
 ghost use Rattle.std.specs.Prelude.{◌≡◌};
 ghost use Rattle.announcement_theory.specs.Tests.{root_in};
 
-use announcement_theory::Slot;
+use announcement_theory::Stored;
 
 // The root in a slot, 0 in an empty one.
-pub(crate) fn root_in(slot: Slot) -> u32
+pub(crate) fn root_in(slot: Option<Stored>) -> u32
     ensures { result ≡ root_in slot }
 {
-    match slot {
-        Slot::Empty => 0,
-        Slot::Filled { root, .. } => root,
-    }
+    slot.map_or(0, |stored| stored.root)
 }

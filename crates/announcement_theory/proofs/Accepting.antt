@@ -1,17 +1,19 @@
 -- F3 over the current version keeps what always holds: the offered version becomes current.
 use Rattle.std.proofs.Common.{◌≡◌, ℕ, ◌+◌, ◌*◌, ◌<◌, ◌≤◌, Bool, true, false, cond, ◌||◌, Some, None, sym, refl, ap, ◌∙◌, subst, inl, ⊎_elim, arith}
 use Rattle.std.proofs.lemmas.Bool.{cases_eq, cases_Bool, or_left, leb-true}
+use Rattle.std.proofs.lemmas.Option.{same_Some}
 use Rattle.announcement_theory.specs.declared.mark.Mark.{Mark}
 use Rattle.announcement_theory.specs.declared.announcement.Announcement.TheVariants as announcement
 use Rattle.announcement_theory.specs.declared.position.Round.TheVariants.{First, Second}
-use Rattle.announcement_theory.specs.declared.position.Position.TheVariants.{F3, Offered}
+use Rattle.announcement_theory.specs.declared.position.Position.TheVariants.{Offering, Offered}
+use Rattle.announcement_theory.specs.declared.position.OfferLabel.TheVariants.{F3}
 use Rattle.announcement_theory.specs.declared.seat.Seat.{Seat}
 use Rattle.announcement_theory.specs.State.{State, mark, seat, slot_at, seat_at, position_at, announced_at}
 use Rattle.announcement_theory.specs.Tests.{is_mark, serial_in, pending}
 use Rattle.announcement_theory.specs.Next.{put, advance}
 use Rattle.announcement_theory.specs.Views.{Mentions, Opener, calm, ready, seeking, found, opener, settled, steady, offerer, owned, over_in, past}
 use Rattle.announcement_theory.specs.Invariant.{Kept, waits, Good}
-use Rattle.announcement_theory.proofs.Basics.{false_true, true_false, clash, some_same, none_some, mark_same, same_mark, usable_pending}
+use Rattle.announcement_theory.proofs.Basics.{false_true, true_false, clash, none_some, mark_same, same_mark, usable_pending}
 use Rattle.announcement_theory.proofs.Roles.{offering_about}
 use Rattle.announcement_theory.proofs.Good.{Rest, Sound, OwnsAt, KeptWith, Fits, flag_on, put_good}
 use Rattle.announcement_theory.proofs.Stay.{kept_here, stay}
@@ -27,10 +29,10 @@ settled_steady c d (found w First) e = refl
 settled_steady c d (found w Second) e = false_true e
 
 module _ (s : State) (g : Good s) (p : ℕ) (h : p < s.programs) (r : ℕ) (over : Mark) (i : ℕ)
-    (was : seat_at s p ≡ seat (F3 r over i) (announcement.Plain over))
+    (was : seat_at s p ≡ seat (Offering r over i F3) (announcement.Plain over))
     (current : is_mark over s.current ≡ true) where
   abbrev old : Seat
-  old = seat (F3 r over i) (announcement.Plain over)
+  old = seat (Offering r over i F3) (announcement.Plain over)
 
   abbrev new : Seat
   new = seat (Offered over) (announcement.Plain over)
@@ -103,7 +105,7 @@ module _ (s : State) (g : Good s) (p : ℕ) (h : p < s.programs) (r : ℕ) (over
   }
 
   kept_before : (j : ℕ) → (j ≡ i → ⊥) → KeptWith after p None j → KeptWith s p (Some i) j
-  kept_before j ne k = (k.0, k.1, λ e. ne (sym (some_same i j e)))
+  kept_before j ne k = (k.0, k.1, λ e. ne (sym (same_Some i j e)))
 
   kept_plainly : (j : ℕ) → (j ≡ i → ⊥) → KeptWith after p None j → Kept s j
   kept_plainly j ne k = kept_here s g p j (subst (λ o. KeptWith s p o j) (sym mine) (kept_before j ne k))

@@ -3,17 +3,19 @@ use Rattle.std.proofs.Common.{◌≡◌, ℕ, ◌<◌, ◌≤◌, Bool, true, fa
 use Rattle.std.proofs.lemmas.Bool.{cases_eq, eq-eqb, eqb-true, and_parts, and_from, false≢true, true≢false}
 use Rattle.std.proofs.lemmas.List.{get_or_past}
 use Rattle.std.proofs.lemmas.Bool.Decides.{nat_tests}
+use Rattle.std.proofs.lemmas.Option.{none-some, same_Some}
 use Rattle.announcement_theory.specs.declared.mark.Mark.{Mark}
+use Rattle.announcement_theory.specs.declared.slot.Status.{Status}
 use Rattle.announcement_theory.specs.declared.slot.Status.TheVariants.{Usable, Pending, Frozen}
-use Rattle.announcement_theory.specs.declared.slot.Slot.{Slot}
-use Rattle.announcement_theory.specs.declared.slot.Slot.TheVariants as slot
+use Rattle.announcement_theory.specs.declared.slot.Stored.{Stored}
 use Rattle.announcement_theory.specs.declared.announcement.Announcement.{Announcement}
 use Rattle.announcement_theory.specs.declared.announcement.Announcement.TheVariants as announcement
 use Rattle.announcement_theory.specs.declared.position.Position.{Position}
-use Rattle.announcement_theory.specs.declared.position.Position.TheVariants.{Idle, O1, O2, O3, O4, O5, O6, Open, F1, F2, F3, Offered, C1, C2, C3, C4, C5, C6, C7}
+use Rattle.announcement_theory.specs.declared.position.Position.TheVariants.{Offering}
+use Rattle.announcement_theory.specs.declared.position.OfferLabel.TheVariants.{F1, F2, F3}
 use Rattle.announcement_theory.specs.declared.seat.Seat.{Seat}
 use Rattle.announcement_theory.specs.State.{State, mark, unseated, seat_at}
-use Rattle.announcement_theory.specs.Tests.{is_mark, asks, bears, filled, serial_in, holds, usable, pending, frozen}
+use Rattle.announcement_theory.specs.Tests.{is_mark, asks, bears, filled, serial_in, holds, is_usable, is_pending, is_frozen, usable, pending, frozen}
 use Rattle.announcement_theory.specs.Next.{put}
 use Rattle.announcement_theory.specs.Views.{Manner, silent, asking, holding, fits, offerer, owns, owned_in, owned, Offerer, aside, seeks}
 
@@ -26,11 +28,8 @@ true_false e = absurd (true≢false e)
 pub clash : {A : Type 0} (b : Bool) → b ≡ true → b ≡ false → A
 clash b e f = false_true (sym f ∙ e)
 
-pub some_same : {A : Type 0} (a b : A) → Some a ≡ Some b → a ≡ b
-some_same a b e = cc
-
 pub none_some : {A B : Type 0} (a : A) → ◌≡◌ {A = Option A} None (Some a) → B
-none_some a e = let z : ◌≡◌ {A = ℕ} 0 1 = cc in absurd (omega arith)
+none_some a e = absurd (none-some a e)
 
 pub mark_same : (v w : Mark) → is_mark v w ≡ true → v ≡ w
 mark_same v w e =
@@ -49,61 +48,51 @@ pub mark_flip : (v w : Mark) → is_mark v w ≡ is_mark w v
 mark_flip v w = grind (arith, nat_tests)
 
 -- a version in its slot, and other facts of slots
-pub holds_filled : (v : Mark) (x : Slot) → holds v x ≡ true → filled x ≡ true
-holds_filled v slot.Empty e = e
-holds_filled v (slot.Filled n r st) e = refl
+pub holds_filled : (v : Mark) (x : Option Stored) → holds v x ≡ true → filled x ≡ true
+holds_filled v None e = e
+holds_filled v (Some x) e = refl
 
-pub holds_serial : (v : Mark) (x : Slot) → holds v x ≡ true → serial_in x ≡ v.serial
-holds_serial v slot.Empty e = false_true e
-holds_serial v (slot.Filled n r st) e = eqb-true n v.serial e
+pub holds_serial : (v : Mark) (x : Option Stored) → holds v x ≡ true → serial_in x ≡ v.serial
+holds_serial v None e = false_true e
+holds_serial v (Some x) e = eqb-true x.serial v.serial e
 
-pub serial_holds : (v : Mark) (x : Slot) → filled x ≡ true → serial_in x ≡ v.serial → holds v x ≡ true
-serial_holds v slot.Empty f e = f
-serial_holds v (slot.Filled n r st) f e = eq-eqb n v.serial e
+pub serial_holds : (v : Mark) (x : Option Stored) → filled x ≡ true → serial_in x ≡ v.serial → holds v x ≡ true
+serial_holds v None f e = f
+serial_holds v (Some x) f e = eq-eqb x.serial v.serial e
 
-pub usable_filled : (x : Slot) → usable x ≡ true → filled x ≡ true
-usable_filled slot.Empty e = e
-usable_filled (slot.Filled n r st) e = refl
+pub usable_filled : (x : Option Stored) → usable x ≡ true → filled x ≡ true
+usable_filled None e = e
+usable_filled (Some x) e = refl
 
-pub usable_pending : (x : Slot) → usable x ≡ true → pending x ≡ false
-usable_pending slot.Empty e = refl
-usable_pending (slot.Filled n r Usable) e = refl
-usable_pending (slot.Filled n r Pending) e = false_true e
-usable_pending (slot.Filled n r Frozen) e = refl
+-- what is usable is not pending and not frozen, and what is pending is not frozen
+only_usable : (st : Status) → is_usable st ≡ true → (is_pending st ≡ false) × (is_frozen st ≡ false)
+only_usable Usable e = (refl, refl)
+only_usable Pending e = false_true e
+only_usable Frozen e = false_true e
 
-pub usable_frozen : (x : Slot) → usable x ≡ true → frozen x ≡ false
-usable_frozen slot.Empty e = refl
-usable_frozen (slot.Filled n r Usable) e = refl
-usable_frozen (slot.Filled n r Pending) e = refl
-usable_frozen (slot.Filled n r Frozen) e = false_true e
+only_pending : (st : Status) → is_pending st ≡ true → is_frozen st ≡ false
+only_pending Usable e = refl
+only_pending Pending e = refl
+only_pending Frozen e = false_true e
 
-pub pending_frozen : (x : Slot) → pending x ≡ true → frozen x ≡ false
-pending_frozen slot.Empty e = refl
-pending_frozen (slot.Filled n r Usable) e = refl
-pending_frozen (slot.Filled n r Pending) e = refl
-pending_frozen (slot.Filled n r Frozen) e = false_true e
+pub usable_pending : (x : Option Stored) → usable x ≡ true → pending x ≡ false
+usable_pending None e = refl
+usable_pending (Some x) e = (only_usable x.status e).0
+
+pub usable_frozen : (x : Option Stored) → usable x ≡ true → frozen x ≡ false
+usable_frozen None e = refl
+usable_frozen (Some x) e = (only_usable x.status e).1
+
+pub pending_frozen : (x : Option Stored) → pending x ≡ true → frozen x ≡ false
+pending_frozen None e = refl
+pending_frozen (Some x) e = only_pending x.status e
 
 -- the slot of an owner, whatever number of programs it counts with
 pub owned_is : (all : ℕ) (at : Position) → owned_in (offerer all at) ≡ owned at
-owned_is all Idle = refl
-owned_is all (O1 since u) = refl
-owned_is all (O2 since u) = refl
-owned_is all (O3 since u) = refl
-owned_is all (O4 since u round) = refl
-owned_is all (O5 since u w round) = refl
-owned_is all (O6 since u round) = refl
-owned_is all (Open v) = refl
-owned_is all (F1 r over i) = refl
-owned_is all (F2 r over i x) = refl
-owned_is all (F3 r over i) = refl
-owned_is all (Offered v) = refl
-owned_is all (C1 v) = refl
-owned_is all (C2 v) = refl
-owned_is all (C3 v) = refl
-owned_is all (C4 v x) = refl
-owned_is all (C5 v) = refl
-owned_is all (C6 v x) = refl
-owned_is all (C7 v) = refl
+owned_is all (Offering r over i F1) = refl
+owned_is all (Offering r over i (F2 x)) = refl
+owned_is all (Offering r over i F3) = refl
+owned_is all _ = refl
 
 pub owner_owns : (all : ℕ) (at : Position) (r : ℕ) (over : Mark) (i f : ℕ) → offerer all at ≡ owns r over i f → owned at ≡ Some i
 owner_owns all at r over i f e = sym (owned_is all at) ∙ ap owned_in e
@@ -118,7 +107,7 @@ pub record Owner (o : Offerer) (i : ℕ) : Type 0 where
 owner_in : (o : Offerer) (i : ℕ) → owned_in o ≡ Some i → Owner o i
 owner_in aside i e = none_some i e
 owner_in (seeks over j) i e = none_some i e
-owner_in (owns r over j f) i e = record { root = r; over = over; passed = f; is = ap (λ k. owns r over k f) (some_same j i e) }
+owner_in (owns r over j f) i e = record { root = r; over = over; passed = f; is = ap (λ k. owns r over k f) (same_Some j i e) }
 
 pub owner_of : (all : ℕ) (at : Position) (i : ℕ) → owned at ≡ Some i → Owner (offerer all at) i
 owner_of all at i e = owner_in (offerer all at) i (owned_is all at ∙ e)

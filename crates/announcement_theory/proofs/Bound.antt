@@ -5,7 +5,8 @@ use Rattle.announcement_theory.specs.declared.mark.Mark.{Mark}
 use Rattle.announcement_theory.specs.declared.announcement.Announcement.{Announcement}
 use Rattle.announcement_theory.specs.declared.announcement.Announcement.TheVariants as announcement
 use Rattle.announcement_theory.specs.declared.position.Position.{Position}
-use Rattle.announcement_theory.specs.declared.position.Position.TheVariants.{Idle, O1, O2, O3, O4, O5, O6, Open, F1, F2, F3, Offered, C1, C2, C3, C4, C5, C6, C7}
+use Rattle.announcement_theory.specs.declared.position.Position.TheVariants.{Opening, Closing}
+use Rattle.announcement_theory.specs.declared.position.CloseLabel.TheVariants.{C1}
 use Rattle.announcement_theory.specs.declared.seat.Seat.{Seat}
 use Rattle.announcement_theory.specs.State.{State, seat, seat_at, position_at, announced_at}
 use Rattle.announcement_theory.specs.Next.{put, announce}
@@ -23,25 +24,9 @@ use Rattle.announcement_theory.proofs.Effects.{kept_put}
 
 -- an asking program is opening
 pub asking_stage : (at : Position) (u : Mark) → manner at ≡ asking u → (a : Announcement) → stage_from a at ≡ stage.Opening (since at) (bound a)
-asking_stage Idle u e a = let z : ◌≡◌ {A = ℕ} 0 1 = cc in absurd (omega arith)
-asking_stage (O1 since v) u e a = refl
-asking_stage (O2 since v) u e a = refl
-asking_stage (O3 since v) u e a = refl
-asking_stage (O4 since v round) u e a = refl
-asking_stage (O5 since v w round) u e a = refl
-asking_stage (O6 since v round) u e a = refl
-asking_stage (Open v) u e a = let z : ◌≡◌ {A = ℕ} 0 1 = cc in absurd (omega arith)
-asking_stage (F1 r over i) u e a = let z : ◌≡◌ {A = ℕ} 0 1 = cc in absurd (omega arith)
-asking_stage (F2 r over i x) u e a = let z : ◌≡◌ {A = ℕ} 0 1 = cc in absurd (omega arith)
-asking_stage (F3 r over i) u e a = let z : ◌≡◌ {A = ℕ} 0 1 = cc in absurd (omega arith)
-asking_stage (Offered v) u e a = let z : ◌≡◌ {A = ℕ} 0 1 = cc in absurd (omega arith)
-asking_stage (C1 v) u e a = let z : ◌≡◌ {A = ℕ} 0 1 = cc in absurd (omega arith)
-asking_stage (C2 v) u e a = let z : ◌≡◌ {A = ℕ} 0 1 = cc in absurd (omega arith)
-asking_stage (C3 v) u e a = let z : ◌≡◌ {A = ℕ} 0 1 = cc in absurd (omega arith)
-asking_stage (C4 v x) u e a = let z : ◌≡◌ {A = ℕ} 0 1 = cc in absurd (omega arith)
-asking_stage (C5 v) u e a = let z : ◌≡◌ {A = ℕ} 0 1 = cc in absurd (omega arith)
-asking_stage (C6 v x) u e a = let z : ◌≡◌ {A = ℕ} 0 1 = cc in absurd (omega arith)
-asking_stage (C7 v) u e a = let z : ◌≡◌ {A = ℕ} 0 1 = cc in absurd (omega arith)
+asking_stage (Opening since v at) u e a = refl
+asking_stage (Closing v C1) u e a = let z : ◌≡◌ {A = ℕ} 0 1 = cc in absurd (omega arith)
+asking_stage _ u e a = let z : ◌≡◌ {A = ℕ} 0 1 = cc in absurd (omega arith)
 
 -- x asked for help with u and is bound to w, and p goes from old to new
 module _ (s : State) (g : Good s) (p : ℕ) (h : p < s.programs) (x : ℕ) (l : x < s.programs) (ne : x ≡ p → ⊥) (u w : Mark)

@@ -3,7 +3,7 @@ use Rattle.std.proofs.Common.{◌≡◌, ℕ, ◌<◌, true, ◌⊎◌, sym, ref
 use Rattle.announcement_theory.specs.declared.mark.Mark.{Mark}
 use Rattle.announcement_theory.specs.declared.announcement.Announcement.{Announcement}
 use Rattle.announcement_theory.specs.declared.position.Position.{Position}
-use Rattle.announcement_theory.specs.declared.position.Position.TheVariants.{Idle, O1, O2, O3, O4, O5, O6, Open, F1, F2, F3, Offered, C1, C2, C3, C4, C5, C6, C7}
+use Rattle.announcement_theory.specs.declared.position.Position.TheVariants.{Idle, Open, Offered}
 use Rattle.announcement_theory.specs.State.{State, position_at, announced_at}
 use Rattle.announcement_theory.proofs.Basics.{false_true}
 use Rattle.keeper.specs.declared.stage.Stage.{Stage}
@@ -20,66 +20,16 @@ use Rattle.announcement_theory.proofs.Done.{opens_done, publishes_done, closes_o
 -- where a program stands that is idle, open, or may close
 idle_position : (at : Position) (a : Announcement) → idle (stage_from a at) ≡ true → at ≡ Idle
 idle_position Idle a e = refl
-idle_position (O1 n u) a e = false_true e
-idle_position (O2 n u) a e = false_true e
-idle_position (O3 n u) a e = false_true e
-idle_position (O4 n u r) a e = false_true e
-idle_position (O5 n u w r) a e = false_true e
-idle_position (O6 n u r) a e = false_true e
-idle_position (Open v) a e = false_true e
-idle_position (F1 r over i) a e = false_true e
-idle_position (F2 r over i x) a e = false_true e
-idle_position (F3 r over i) a e = false_true e
-idle_position (Offered v) a e = false_true e
-idle_position (C1 v) a e = false_true e
-idle_position (C2 v) a e = false_true e
-idle_position (C3 v) a e = false_true e
-idle_position (C4 v x) a e = false_true e
-idle_position (C5 v) a e = false_true e
-idle_position (C6 v x) a e = false_true e
-idle_position (C7 v) a e = false_true e
+idle_position _ a e = false_true e
 
 open_position : (at : Position) (a : Announcement) → opened (stage_from a at) ≡ true → (v : Mark) × (at ≡ Open v)
-open_position Idle a e = false_true e
-open_position (O1 n u) a e = false_true e
-open_position (O2 n u) a e = false_true e
-open_position (O3 n u) a e = false_true e
-open_position (O4 n u r) a e = false_true e
-open_position (O5 n u w r) a e = false_true e
-open_position (O6 n u r) a e = false_true e
 open_position (Open v) a e = (v, refl)
-open_position (F1 r over i) a e = false_true e
-open_position (F2 r over i x) a e = false_true e
-open_position (F3 r over i) a e = false_true e
-open_position (Offered v) a e = false_true e
-open_position (C1 v) a e = false_true e
-open_position (C2 v) a e = false_true e
-open_position (C3 v) a e = false_true e
-open_position (C4 v x) a e = false_true e
-open_position (C5 v) a e = false_true e
-open_position (C6 v x) a e = false_true e
-open_position (C7 v) a e = false_true e
+open_position _ a e = false_true e
 
 close_position : (at : Position) (a : Announcement) → closable (stage_from a at) ≡ true → (v : Mark) × ((at ≡ Open v) ⊎ (at ≡ Offered v))
-close_position Idle a e = false_true e
-close_position (O1 n u) a e = false_true e
-close_position (O2 n u) a e = false_true e
-close_position (O3 n u) a e = false_true e
-close_position (O4 n u r) a e = false_true e
-close_position (O5 n u w r) a e = false_true e
-close_position (O6 n u r) a e = false_true e
 close_position (Open v) a e = (v, inl refl)
-close_position (F1 r over i) a e = false_true e
-close_position (F2 r over i x) a e = false_true e
-close_position (F3 r over i) a e = false_true e
 close_position (Offered v) a e = (v, inr refl)
-close_position (C1 v) a e = false_true e
-close_position (C2 v) a e = false_true e
-close_position (C3 v) a e = false_true e
-close_position (C4 v x) a e = false_true e
-close_position (C5 v) a e = false_true e
-close_position (C6 v x) a e = false_true e
-close_position (C7 v) a e = false_true e
+close_position _ a e = false_true e
 
 module _ (s : State) (g : Good s) (p : ℕ) (h : p < s.programs) where
   abbrev st : Stage

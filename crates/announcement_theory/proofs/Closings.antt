@@ -3,7 +3,8 @@ use Rattle.std.proofs.Common.{◌≡◌, ℕ, ◌+◌, ◌<◌, ◌≤◌, Bool,
 use Rattle.std.proofs.lemmas.Bool.{ltb-true, lt-ltb}
 use Rattle.announcement_theory.specs.declared.mark.Mark.{Mark}
 use Rattle.announcement_theory.specs.declared.announcement.Announcement.TheVariants as announcement
-use Rattle.announcement_theory.specs.declared.position.Position.TheVariants.{Idle, Open, Offered, C1, C2, C3, C4, C5, C6, C7}
+use Rattle.announcement_theory.specs.declared.position.Position.TheVariants.{Idle, Open, Offered, Closing}
+use Rattle.announcement_theory.specs.declared.position.CloseLabel.TheVariants.{C1, C2, C3, C4, C5, C6, C7}
 use Rattle.announcement_theory.specs.declared.seat.Seat.{Seat}
 use Rattle.announcement_theory.specs.State.{State, mark, seat, slot_at, seat_at, position_at, announced_at}
 use Rattle.announcement_theory.specs.Tests.{is_mark, asks, bears, serial_in, pending, frozen}
@@ -20,11 +21,11 @@ module _ (s : State) (g : Good s) (p : ℕ) (h : p < s.programs) (v : Mark) wher
   abbrev V : Mark
   V = s.current
 
-  pub close_open_good : seat_at s p ≡ seat (Open v) (announcement.Plain v) → Good (put s p (seat (C1 v) (announcement.Plain v)))
+  pub close_open_good : seat_at s p ≡ seat (Open v) (announcement.Plain v) → Good (put s p (seat (Closing v C1) (announcement.Plain v)))
   close_open_good e =
       let old = seat (Open v) (announcement.Plain v) in
       let t = stay s g p h old e in
-      moves s g p h old (seat (C1 v) (announcement.Plain v)) e refl refl (record {
+      moves s g p h old (seat (Closing v C1) (announcement.Plain v)) e refl refl (record {
         ranged = refl;
         local = t.local;
         knows = t.knows;
@@ -35,11 +36,11 @@ module _ (s : State) (g : Good s) (p : ℕ) (h : p < s.programs) (v : Mark) wher
         rise = λ i. omega (arith, used_more V i v);
       })
 
-  pub close_offered_good : seat_at s p ≡ seat (Offered v) (announcement.Plain v) → Good (put s p (seat (C1 v) (announcement.Plain v)))
+  pub close_offered_good : seat_at s p ≡ seat (Offered v) (announcement.Plain v) → Good (put s p (seat (Closing v C1) (announcement.Plain v)))
   close_offered_good e =
       let old = seat (Offered v) (announcement.Plain v) in
       let t = stay s g p h old e in
-      moves s g p h old (seat (C1 v) (announcement.Plain v)) e refl refl (record {
+      moves s g p h old (seat (Closing v C1) (announcement.Plain v)) e refl refl (record {
         ranged = refl;
         local = t.local;
         knows = t.knows;
@@ -50,11 +51,11 @@ module _ (s : State) (g : Good s) (p : ℕ) (h : p < s.programs) (v : Mark) wher
         rise = λ i. omega arith;
       })
 
-  pub c1_good : seat_at s p ≡ seat (C1 v) (announcement.Plain v) → Good (put s p (seat (C2 v) announcement.Empty))
+  pub c1_good : seat_at s p ≡ seat (Closing v C1) (announcement.Plain v) → Good (put s p (seat (Closing v C2) announcement.Empty))
   c1_good e =
-      let old = seat (C1 v) (announcement.Plain v) in
+      let old = seat (Closing v C1) (announcement.Plain v) in
       let t = stay s g p h old e in
-      moves s g p h old (seat (C2 v) announcement.Empty) e refl refl (record {
+      moves s g p h old (seat (Closing v C2) announcement.Empty) e refl refl (record {
         ranged = refl;
         local = refl;
         knows = (t.knows.0, tt, tt);
@@ -91,15 +92,15 @@ module _ (s : State) (g : Good s) (p : ℕ) (h : p < s.programs) (v : Mark) wher
         subst (λ y. pending (slot_at s y.slot) ≡ false) is b.0,
       )
 
-  pub c2_end_good : seat_at s p ≡ seat (C2 v) announcement.Empty → is_mark V v ≡ true → Good (put s p (seat Idle announcement.Empty))
-  c2_end_good e c = idles (seat (C2 v) announcement.Empty) e refl (λ i. omega (arith, used_most V i v 1 (omega arith)))
+  pub c2_end_good : seat_at s p ≡ seat (Closing v C2) announcement.Empty → is_mark V v ≡ true → Good (put s p (seat Idle announcement.Empty))
+  c2_end_good e c = idles (seat (Closing v C2) announcement.Empty) e refl (λ i. omega (arith, used_most V i v 1 (omega arith)))
       (λ j k rest w. (waited j k w).0 ∙ ap (λ y. y.slot) (sym (mark_same V v c)))
 
-  pub c2_go_good : seat_at s p ≡ seat (C2 v) announcement.Empty → is_mark V v ≡ false → Good (put s p (seat (C3 v) announcement.Empty))
+  pub c2_go_good : seat_at s p ≡ seat (Closing v C2) announcement.Empty → is_mark V v ≡ false → Good (put s p (seat (Closing v C3) announcement.Empty))
   c2_go_good e c =
-      let old = seat (C2 v) announcement.Empty in
+      let old = seat (Closing v C2) announcement.Empty in
       let t = stay s g p h old e in
-      moves s g p h old (seat (C3 v) announcement.Empty) e refl refl (record {
+      moves s g p h old (seat (Closing v C3) announcement.Empty) e refl refl (record {
         ranged = refl;
         local = refl;
         knows = t.knows;
@@ -110,12 +111,12 @@ module _ (s : State) (g : Good s) (p : ℕ) (h : p < s.programs) (v : Mark) wher
         rise = λ i. omega arith;
       })
 
-  pub c3_frozen_good : seat_at s p ≡ seat (C3 v) announcement.Empty → frozen (slot_at s v.slot) ≡ true → Good
-      (put s p (seat (C6 v 0) announcement.Empty))
+  pub c3_frozen_good : seat_at s p ≡ seat (Closing v C3) announcement.Empty → frozen (slot_at s v.slot) ≡ true → Good
+      (put s p (seat (Closing v (C6 0)) announcement.Empty))
   c3_frozen_good e f =
-      let old = seat (C3 v) announcement.Empty in
+      let old = seat (Closing v C3) announcement.Empty in
       let t = stay s g p h old e in
-      moves s g p h old (seat (C6 v 0) announcement.Empty) e refl refl (record {
+      moves s g p h old (seat (Closing v (C6 0)) announcement.Empty) e refl refl (record {
         ranged = lt-ltb 0 s.programs (omega (arith, g.sized.0));
         local = refl;
         knows = t.knows;
@@ -127,26 +128,26 @@ module _ (s : State) (g : Good s) (p : ℕ) (h : p < s.programs) (v : Mark) wher
       })
 
   -- the version is not in its slot, or another program is at it
-  pub c3_end_good : seat_at s p ≡ seat (C3 v) announcement.Empty → (Holds s v → pending (slot_at s v.slot) ≡ true) → Good
+  pub c3_end_good : seat_at s p ≡ seat (Closing v C3) announcement.Empty → (Holds s v → pending (slot_at s v.slot) ≡ true) → Good
       (put s p (seat Idle announcement.Empty))
-  c3_end_good e gone = idles (seat (C3 v) announcement.Empty) e refl (λ i. omega (arith, used_most V i v 1 (omega arith)))
+  c3_end_good e gone = idles (seat (Closing v C3) announcement.Empty) e refl (λ i. omega (arith, used_most V i v 1 (omega arith)))
       (λ j k rest w. let b = waited j k w in clash (pending (slot_at s v.slot)) (gone b.1) b.2)
 
   -- the version is not in its slot, or not frozen there
-  pub c7_end_good : seat_at s p ≡ seat (C7 v) announcement.Empty → (Holds s v → frozen (slot_at s v.slot) ≡ false) → Good
+  pub c7_end_good : seat_at s p ≡ seat (Closing v C7) announcement.Empty → (Holds s v → frozen (slot_at s v.slot) ≡ false) → Good
       (put s p (seat Idle announcement.Empty))
   c7_end_good e gone =
-      let t = stay s g p h (seat (C7 v) announcement.Empty) e in
-      idles (seat (C7 v) announcement.Empty) e refl (λ i. omega (arith, used_most V i v 1 (omega arith)))
+      let t = stay s g p h (seat (Closing v C7) announcement.Empty) e in
+      idles (seat (Closing v C7) announcement.Empty) e refl (λ i. omega (arith, used_most V i v 1 (omega arith)))
       (λ j k rest w. let b = waited j k w in clash (frozen (slot_at s v.slot)) (t.closes.frozen b.1) (gone b.1))
 
   module _ (x : ℕ) where
     next_past : {b : ℕ} → b ≡ x + 1 → (q : ℕ) → x ≤ q → (q ≡ x → ⊥) → b ≤ q
     next_past e q k ne = omega arith
 
-    pends_next : (b : ℕ) → b ≡ x + 1 → seat_at s p ≡ seat (C4 v x) announcement.Empty → asks v (announced_at s x) ≡ false → PendsAt s p v b
+    pends_next : (b : ℕ) → b ≡ x + 1 → seat_at s p ≡ seat (Closing v (C4 x)) announcement.Empty → asks v (announced_at s x) ≡ false → PendsAt s p v b
     pends_next b n e without =
-        let t = stay s g p h (seat (C4 v x) announcement.Empty) e in
+        let t = stay s g p h (seat (Closing v (C4 x)) announcement.Empty) e in
         record {
           stands = t.closes.stands;
           pending = t.closes.pending;
@@ -156,12 +157,12 @@ module _ (s : State) (g : Good s) (p : ℕ) (h : p < s.programs) (v : Mark) wher
               (subst (λ y. asks v (announced_at s y) ≡ true) same (ap (asks v) a ∙ mark_self v)) without);
         }
 
-    pub c4_next_good : seat_at s p ≡ seat (C4 v x) announcement.Empty → asks v (announced_at s x) ≡ false → x + 1 < s.programs
-        → Good (put s p (seat (C4 v (x + 1)) announcement.Empty))
+    pub c4_next_good : seat_at s p ≡ seat (Closing v (C4 x)) announcement.Empty → asks v (announced_at s x) ≡ false → x + 1 < s.programs
+        → Good (put s p (seat (Closing v (C4 (x + 1))) announcement.Empty))
     c4_next_good e without l =
-        let old = seat (C4 v x) announcement.Empty in
+        let old = seat (Closing v (C4 x)) announcement.Empty in
         let t = stay s g p h old e in
-        moves s g p h old (seat (C4 v (x + 1)) announcement.Empty) e refl refl (record {
+        moves s g p h old (seat (Closing v (C4 (x + 1))) announcement.Empty) e refl refl (record {
           ranged = lt-ltb (x + 1) s.programs l;
           local = refl;
           knows = t.knows;
@@ -172,13 +173,13 @@ module _ (s : State) (g : Good s) (p : ℕ) (h : p < s.programs) (v : Mark) wher
           rise = λ i. omega arith;
         })
 
-    pub c4_last_good : seat_at s p ≡ seat (C4 v x) announcement.Empty → asks v (announced_at s x) ≡ false → s.programs ≤ x + 1
-        → Good (put s p (seat (C5 v) announcement.Empty))
+    pub c4_last_good : seat_at s p ≡ seat (Closing v (C4 x)) announcement.Empty → asks v (announced_at s x) ≡ false → s.programs ≤ x + 1
+        → Good (put s p (seat (Closing v C5) announcement.Empty))
     c4_last_good e without l =
-        let old = seat (C4 v x) announcement.Empty in
+        let old = seat (Closing v (C4 x)) announcement.Empty in
         let t = stay s g p h old e in
         let here : x < s.programs = ltb-true x s.programs t.ranged in
-        moves s g p h old (seat (C5 v) announcement.Empty) e refl refl (record {
+        moves s g p h old (seat (Closing v C5) announcement.Empty) e refl refl (record {
           ranged = refl;
           local = refl;
           knows = t.knows;
@@ -189,9 +190,9 @@ module _ (s : State) (g : Good s) (p : ℕ) (h : p < s.programs) (v : Mark) wher
           rise = λ i. omega arith;
         })
 
-    sweeps_next : (b : ℕ) → b ≡ x + 1 → seat_at s p ≡ seat (C6 v x) announcement.Empty → bears v (announced_at s x) ≡ false → SweepsAt s p v b
+    sweeps_next : (b : ℕ) → b ≡ x + 1 → seat_at s p ≡ seat (Closing v (C6 x)) announcement.Empty → bears v (announced_at s x) ≡ false → SweepsAt s p v b
     sweeps_next b n e without =
-        let t = stay s g p h (seat (C6 v x) announcement.Empty) e in
+        let t = stay s g p h (seat (Closing v (C6 x)) announcement.Empty) e in
         record {
           frozen = t.closes.frozen;
           swept = λ q ne a. next_past n q (t.closes.swept q ne a)
@@ -199,12 +200,12 @@ module _ (s : State) (g : Good s) (p : ℕ) (h : p < s.programs) (v : Mark) wher
               (subst (λ y. bears v (announced_at s y) ≡ true) same (ap (bears v) a ∙ mark_self v)) without);
         }
 
-    pub c6_next_good : seat_at s p ≡ seat (C6 v x) announcement.Empty → bears v (announced_at s x) ≡ false → x + 1 < s.programs
-        → Good (put s p (seat (C6 v (x + 1)) announcement.Empty))
+    pub c6_next_good : seat_at s p ≡ seat (Closing v (C6 x)) announcement.Empty → bears v (announced_at s x) ≡ false → x + 1 < s.programs
+        → Good (put s p (seat (Closing v (C6 (x + 1))) announcement.Empty))
     c6_next_good e without l =
-        let old = seat (C6 v x) announcement.Empty in
+        let old = seat (Closing v (C6 x)) announcement.Empty in
         let t = stay s g p h old e in
-        moves s g p h old (seat (C6 v (x + 1)) announcement.Empty) e refl refl (record {
+        moves s g p h old (seat (Closing v (C6 (x + 1))) announcement.Empty) e refl refl (record {
           ranged = lt-ltb (x + 1) s.programs l;
           local = refl;
           knows = t.knows;
@@ -215,13 +216,13 @@ module _ (s : State) (g : Good s) (p : ℕ) (h : p < s.programs) (v : Mark) wher
           rise = λ i. omega arith;
         })
 
-    pub c6_last_good : seat_at s p ≡ seat (C6 v x) announcement.Empty → bears v (announced_at s x) ≡ false → s.programs ≤ x + 1
-        → Good (put s p (seat (C7 v) announcement.Empty))
+    pub c6_last_good : seat_at s p ≡ seat (Closing v (C6 x)) announcement.Empty → bears v (announced_at s x) ≡ false → s.programs ≤ x + 1
+        → Good (put s p (seat (Closing v C7) announcement.Empty))
     c6_last_good e without l =
-        let old = seat (C6 v x) announcement.Empty in
+        let old = seat (Closing v (C6 x)) announcement.Empty in
         let t = stay s g p h old e in
         let here : x < s.programs = ltb-true x s.programs t.ranged in
-        moves s g p h old (seat (C7 v) announcement.Empty) e refl refl (record {
+        moves s g p h old (seat (Closing v C7) announcement.Empty) e refl refl (record {
           ranged = refl;
           local = refl;
           knows = t.knows;
@@ -233,8 +234,8 @@ module _ (s : State) (g : Good s) (p : ℕ) (h : p < s.programs) (v : Mark) wher
         })
 
     -- another program has the version, and waits for it
-    pub c6_end_good : seat_at s p ≡ seat (C6 v x) announcement.Empty → bears v (announced_at s x) ≡ true → Good (put s p (seat Idle announcement.Empty))
-    c6_end_good e with_it = idles (seat (C6 v x) announcement.Empty) e refl (λ i. omega (arith, used_most V i v 1 (omega arith)))
+    pub c6_end_good : seat_at s p ≡ seat (Closing v (C6 x)) announcement.Empty → bears v (announced_at s x) ≡ true → Good (put s p (seat Idle announcement.Empty))
+    c6_end_good e with_it = idles (seat (Closing v (C6 x)) announcement.Empty) e refl (λ i. omega (arith, used_most V i v 1 (omega arith)))
         (λ j k rest w.
         let b = waits_left (pending (slot_at s j)) (is_mark (mark (serial_in (slot_at s j)) j) v) w in
         let is : mark (serial_in (slot_at s j)) j ≡ v = mark_same (mark (serial_in (slot_at s j)) j) v b.1 in

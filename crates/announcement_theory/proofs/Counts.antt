@@ -2,19 +2,23 @@
 use Rattle.std.proofs.Common.{◌≡◌, ℕ, zero, suc, ◌+◌, ◌*◌, ◌<◌, ◌≤◌, Bool, true, false, cond, List, [], ◌∷◌, length, get_or, Some, None, Option, sym, refl, ap, ◌∙◌, subst, ⊎_elim, arith}
 use Rattle.std.proofs.lemmas.Bool.{cases_lt, cases_Bool}
 use Rattle.std.proofs.lemmas.Bool.Decides.{nat_tests}
+use Rattle.std.proofs.lemmas.Option.{same_Some}
 use Rattle.keeper.specs.Totals.{total}
 use Rattle.announcement_theory.specs.declared.mark.Mark.{Mark}
 use Rattle.announcement_theory.specs.declared.announcement.Announcement.{Announcement}
 use Rattle.announcement_theory.specs.declared.announcement.Announcement.TheVariants as announcement
 use Rattle.announcement_theory.specs.declared.position.Position.{Position}
-use Rattle.announcement_theory.specs.declared.position.Position.TheVariants.{Idle, O1, O2, O3, O4, O5, O6, Open, F1, F2, F3, Offered, C1, C2, C3, C4, C5, C6, C7}
+use Rattle.announcement_theory.specs.declared.position.Position.TheVariants.{Opening, Open, Offering, Offered, Closing}
+use Rattle.announcement_theory.specs.declared.position.OpenLabel.TheVariants.{O1}
+use Rattle.announcement_theory.specs.declared.position.OfferLabel.TheVariants.{F1}
+use Rattle.announcement_theory.specs.declared.position.CloseLabel.TheVariants.{C1}
 use Rattle.announcement_theory.specs.declared.seat.Seat.{Seat}
 use Rattle.announcement_theory.specs.State.{State, mark, seat, unseated, slot_at, seat_at, position_at, announced_at}
 use Rattle.announcement_theory.specs.Tests.{is_mark, filled, serial_in}
 use Rattle.announcement_theory.specs.Views.{manner, fits, since, offerer, owned, closer}
 use Rattle.announcement_theory.specs.Shares.{Past, whole, hopes, lost, uses, done, below, used, share_of, owned_below, share, accounted, past_of}
 use Rattle.announcement_theory.specs.Invariant.{waits, Good}
-use Rattle.announcement_theory.proofs.Basics.{false_true, some_same, none_some, mark_same, beyond}
+use Rattle.announcement_theory.proofs.Basics.{false_true, none_some, mark_same, beyond}
 use Rattle.announcement_theory.proofs.Roles.{closed}
 use Rattle.announcement_theory.proofs.Stay.{stay}
 use Rattle.announcement_theory.proofs.Shared.{below_most, used_most}
@@ -108,46 +112,18 @@ record Uses (at : Position) (a : Announcement) (v : Mark) : Type 0 where
   pub «is» : (c : Mark) (i : ℕ) → share_of c i (past_of at) a ≡ used c i v extra
 
 has_uses : (at : Position) (v : Mark) → fits (manner at) (announcement.Plain v) ≡ true → Uses at (announcement.Plain v) v
-has_uses Idle v e = false_true e
-has_uses (O1 since u) v e = false_true e
-has_uses (O2 since u) v e = record { extra = 0; is = λ c i. refl }
-has_uses (O3 since u) v e = record { extra = 0; is = λ c i. refl }
-has_uses (O4 since u round) v e = record { extra = 0; is = λ c i. refl }
-has_uses (O5 since u w round) v e = record { extra = 0; is = λ c i. refl }
-has_uses (O6 since u round) v e = record { extra = 0; is = λ c i. refl }
+has_uses (Opening since u O1) v e = false_true e
+has_uses (Opening since u _) v e = record { extra = 0; is = λ c i. refl }
 has_uses (Open u) v e = record { extra = 0; is = λ c i. ap (λ y. used c i y 0) (mark_same u v e) }
-has_uses (F1 r u i) v e = record { extra = 0; is = λ c i. ap (λ y. used c i y 0) (mark_same u v e) }
-has_uses (F2 r u i x) v e = record { extra = 0; is = λ c i. ap (λ y. used c i y 0) (mark_same u v e) }
-has_uses (F3 r u i) v e = record { extra = 0; is = λ c i. ap (λ y. used c i y 0) (mark_same u v e) }
+has_uses (Offering r u i at) v e = record { extra = 0; is = λ c i. ap (λ y. used c i y 0) (mark_same u v e) }
 has_uses (Offered u) v e = record { extra = 1; is = λ c i. ap (λ y. used c i y 1) (mark_same u v e) }
-has_uses (C1 u) v e = record { extra = 1; is = λ c i. ap (λ y. used c i y 1) (mark_same u v e) }
-has_uses (C2 u) v e = false_true e
-has_uses (C3 u) v e = false_true e
-has_uses (C4 u x) v e = false_true e
-has_uses (C5 u) v e = false_true e
-has_uses (C6 u x) v e = false_true e
-has_uses (C7 u) v e = false_true e
+has_uses (Closing u C1) v e = record { extra = 1; is = λ c i. ap (λ y. used c i y 1) (mark_same u v e) }
+has_uses _ v e = false_true e
 
 closes_uses : (all : ℕ) (at : Position) (a : Announcement) (v : Mark) → closed (closer all at) ≡ Some v → Uses at a v
-closes_uses all Idle a v e = none_some v e
-closes_uses all (O1 since u) a v e = none_some v e
-closes_uses all (O2 since u) a v e = none_some v e
-closes_uses all (O3 since u) a v e = none_some v e
-closes_uses all (O4 since u round) a v e = none_some v e
-closes_uses all (O5 since u w round) a v e = none_some v e
-closes_uses all (O6 since u round) a v e = none_some v e
-closes_uses all (Open u) a v e = none_some v e
-closes_uses all (F1 r u i) a v e = none_some v e
-closes_uses all (F2 r u i x) a v e = none_some v e
-closes_uses all (F3 r u i) a v e = none_some v e
-closes_uses all (Offered u) a v e = none_some v e
-closes_uses all (C1 u) a v e = none_some v e
-closes_uses all (C2 u) a v e = record { extra = 1; is = λ c i. ap (λ y. used c i y 1) (some_same u v e) }
-closes_uses all (C3 u) a v e = record { extra = 1; is = λ c i. ap (λ y. used c i y 1) (some_same u v e) }
-closes_uses all (C4 u x) a v e = record { extra = 1; is = λ c i. ap (λ y. used c i y 1) (some_same u v e) }
-closes_uses all (C5 u) a v e = record { extra = 1; is = λ c i. ap (λ y. used c i y 1) (some_same u v e) }
-closes_uses all (C6 u x) a v e = record { extra = 1; is = λ c i. ap (λ y. used c i y 1) (some_same u v e) }
-closes_uses all (C7 u) a v e = record { extra = 1; is = λ c i. ap (λ y. used c i y 1) (some_same u v e) }
+closes_uses all (Closing u C1) a v e = none_some v e
+closes_uses all (Closing u _) a v e = record { extra = 1; is = λ c i. ap (λ y. used c i y 1) (same_Some u v e) }
+closes_uses all _ a v e = none_some v e
 
 module _ (s : State) (g : Good s) (i : ℕ) (full : filled (slot_at s i) ≡ true) where
   abbrev V : Mark
@@ -220,11 +196,11 @@ module _ (s : State) (g : Good s) (i : ℕ) (full : filled (slot_at s i) ≡ tru
       (cases_lt (accounted s i) (accounted s (i + 1)))
 
 -- over the current version some slot is empty
-pub search_ends : (s : State) → Good s → (p : ℕ) → p < s.programs → (r : ℕ) (over : Mark) (i : ℕ) → seat_at s p ≡ seat (F1 r over i)
+pub search_ends : (s : State) → Good s → (p : ℕ) → p < s.programs → (r : ℕ) (over : Mark) (i : ℕ) → seat_at s p ≡ seat (Offering r over i F1)
     (announcement.Plain over)
     → is_mark over s.current ≡ true → filled (slot_at s i) ≡ true → 3 * s.programs ≤ i → ⊥
 search_ends s g p h r over i e c full end =
-    let t = stay s g p h (seat (F1 r over i) (announcement.Plain over)) e in
+    let t = stay s g p h (seat (Offering r over i F1) (announcement.Plain over)) e in
     let so_far : i ≤ accounted s i = g.searched p over i (ap (λ x. offerer s.programs x.position) e) c in
     let mine : share s.current (i + 1) (seat_at s p) ≤ 2 = subst (λ x. share s.current (i + 1) x ≤ 2) (sym e)
     (omega (arith, used_most s.current (i + 1) over 0 (omega arith))) in

@@ -5,18 +5,20 @@ use Rattle.std.proofs.lemmas.List.{get_or_past}
 use Rattle.announcement_theory.specs.declared.mark.Mark.{Mark}
 use Rattle.announcement_theory.specs.declared.slot.Status.{Status}
 use Rattle.announcement_theory.specs.declared.slot.Status.TheVariants.{Usable, Pending, Frozen}
-use Rattle.announcement_theory.specs.declared.slot.Slot.{Slot}
-use Rattle.announcement_theory.specs.declared.slot.Slot.TheVariants as slot
+use Rattle.announcement_theory.specs.declared.slot.Stored.{Stored}
 use Rattle.announcement_theory.specs.declared.announcement.Announcement.{Announcement}
 use Rattle.announcement_theory.specs.declared.announcement.Announcement.TheVariants as announcement
 use Rattle.announcement_theory.specs.declared.position.Round.{Round}
 use Rattle.announcement_theory.specs.declared.position.Round.TheVariants.{First, Second}
 use Rattle.announcement_theory.specs.declared.position.Position.{Position}
-use Rattle.announcement_theory.specs.declared.position.Position.TheVariants.{Idle, O1, O2, O3, O4, O5, O6, Open, F1, F2, F3, Offered, C1, C2, C3, C4, C5, C6, C7}
+use Rattle.announcement_theory.specs.declared.position.Position.TheVariants.{Idle, Opening, Open, Offering, Offered, Closing}
+use Rattle.announcement_theory.specs.declared.position.OpenLabel.TheVariants.{O1, O2, O3, O4, O5, O6}
+use Rattle.announcement_theory.specs.declared.position.OfferLabel.TheVariants.{F1, F2, F3}
+use Rattle.announcement_theory.specs.declared.position.CloseLabel.TheVariants.{C1, C2, C3, C4, C5, C6, C7}
 use Rattle.announcement_theory.specs.declared.seat.Seat.{Seat}
-use Rattle.announcement_theory.specs.State.{State, mark, seat, slot_at, seat_at, position_at, announced_at}
+use Rattle.announcement_theory.specs.State.{State, mark, seat, stored, slot_at, seat_at, position_at, announced_at}
 use Rattle.announcement_theory.specs.Tests.{is_mark, asks, bears, flagged, filled, serial_in, holds, usable, frozen, restated}
-use Rattle.announcement_theory.specs.Next.{put, fill, advance, go_to, announce, Stepped, goes, stepped, opens_on, stales, step_at, step, opens, publishes, closes, searches, looks, hands, again, next_or, version_had}
+use Rattle.announcement_theory.specs.Next.{put, fill, advance, go_to, announce, Stepped, goes, stepped, opens_on, stales, step_at, step, opens, publishes, closes, searches, looks, looks_on, hands, hands_on, again, next_or, version_had}
 use Rattle.announcement_theory.specs.Views.{holding, manner, about, Mentions, since, opener, owns, offerer, owned, closer}
 use Rattle.announcement_theory.specs.Invariant.{Holds, Good}
 use Rattle.announcement_theory.proofs.Basics.{false_true, clash, mark_same, same_mark, mark_flip, owner_owns, asks_help, asking_bound, at_other}
@@ -62,18 +64,18 @@ module _ (s : State) (g : Good s) (p : ℕ) (h : p < s.programs) where
 
   -- beginnings
   pub opens_done : position_at s p ≡ Idle → OpenDone (meaning_of s) p (meaning_of (opens s p))
-  opens_done e = begun s g p h (seat (O1 V.serial V) mine) (sym (ap owned e)) (stage.Opening V.serial None)
+  opens_done e = begun s g p h (seat (Opening V.serial V O1) mine) (sym (ap owned e)) (stage.Opening V.serial None)
       (ap (λ a. stage.Opening V.serial (bound a)) (empty_at s g p h Idle e refl)) 9 (omega arith)
 
   pub publishes_done : (r : ℕ) (v : Mark) → position_at s p ≡ Open v → PublishDone (meaning_of s) p r (meaning_of (publishes s p r))
-  publishes_done r v e = begun s g p h (seat (F1 r (version_had (position_at s p)) 0) mine) (sym (ap owned e))
+  publishes_done r v e = begun s g p h (seat (Offering r (version_had (position_at s p)) 0 F1) mine) (sym (ap owned e))
       (stage.Offering r (serial_of (stage_of (meaning_of s) p)))
       (ap (stage.Offering r) (ap (λ k. (version_had k).serial) e ∙ sym (ap serial_of (stage_at_is s p) ∙ ap (λ k. serial_of (stage_from mine k)) e)))
       (4 * s.programs + 2) (omega arith)
 
   closes_done_at : (at : Position) (v : Mark) → position_at s p ≡ at → owned at ≡ None → version_had at ≡ v → serial_of (stage_from mine at) ≡ v.serial
       → CloseDone (meaning_of s) p (meaning_of (closes s p))
-  closes_done_at at v e free had serial = begun s g p h (seat (C1 (version_had (position_at s p))) mine) (sym (ap owned e ∙ free))
+  closes_done_at at v e free had serial = begun s g p h (seat (Closing (version_had (position_at s p)) C1) mine) (sym (ap owned e ∙ free))
       (stage.Closing (serial_of (stage_of (meaning_of s) p)))
       (ap stage.Closing (ap (λ k. (version_had k).serial) e ∙ ap (λ k. k.serial) had ∙ sym
       (ap serial_of (stage_at_is s p) ∙ ap (λ k. serial_of (stage_from mine k)) e ∙ serial)))
@@ -111,83 +113,83 @@ module _ (s : State) (g : Good s) (p : ℕ) (h : p < s.programs) where
       there : Mentions (seat_at s p) v
       there = says_mentions s p v a
 
-  o3_done : (n : ℕ) (u : Mark) → position_at s p ≡ O3 n u → (b : Bool) → asks u mine ≡ b
+  o3_done : (n : ℕ) (u : Mark) → position_at s p ≡ Opening n u O3 → (b : Bool) → asks u mine ≡ b
       → Does s p (cond b (opens_on s p (announcement.Plain u)) (opens_on s p mine))
   o3_done n u e true f =
       let a = asks_help u mine f in
-      let old = seat (O3 n u) (announcement.Help u) in
+      let old = seat (Opening n u O3) (announcement.Help u) in
       let new = seat (Open u) (announcement.Plain u) in
-      let was = seat_is s p (O3 n u) (announcement.Help u) e a in
+      let was = seat_is s p (Opening n u O3) (announcement.Help u) e a in
       let there = asks_mentions s p u a in
       let safe = g.valid p u (ap opener e) a in
       ends_open s g p h s new refl refl refl old was n None u.serial refl refl
       (openable s g p u there safe.0 n (subst (λ k. k ≤ u.serial) (ap since e) (g.since p u there))) tt
       (unmoved s g p h old new was refl)
   o3_done n u e false f =
-      let b = asking_bound u mine (local_at s g p h (O3 n u) e) f in
-      ends_bound (O3 n u) e refl n refl (λ a. refl) b.0 b.1
+      let b = asking_bound u mine (local_at s g p h (Opening n u O3) e) f in
+      ends_bound (Opening n u O3) e refl n refl (λ a. refl) b.0 b.1
 
-  o5_done : (n : ℕ) (u w : Mark) (r : Round) → position_at s p ≡ O5 n u w r → (b : Bool) → asks u mine ≡ b
-      → Does s p (cond b (stepped (put s p (seat (O6 n w r) (announcement.Help w))) GoesOn) (opens_on s p mine))
-  o5_done n u w r e true f = goes_on s g p h (seat (O5 n u w r) (announcement.Help u)) (seat (O6 n w r) (announcement.Help w))
-      (seat_is s p (O5 n u w r) (announcement.Help u) e (asks_help u mine f)) refl refl (in_round_less r 5 2 6 3 (omega arith) (omega arith))
+  o5_done : (n : ℕ) (u w : Mark) (r : Round) → position_at s p ≡ Opening n u (O5 w r) → (b : Bool) → asks u mine ≡ b
+      → Does s p (cond b (stepped (put s p (seat (Opening n w (O6 r)) (announcement.Help w))) GoesOn) (opens_on s p mine))
+  o5_done n u w r e true f = goes_on s g p h (seat (Opening n u (O5 w r)) (announcement.Help u)) (seat (Opening n w (O6 r)) (announcement.Help w))
+      (seat_is s p (Opening n u (O5 w r)) (announcement.Help u) e (asks_help u mine f)) refl refl (in_round_less r 5 2 6 3 (omega arith) (omega arith))
   o5_done n u w r e false f =
-      let b = asking_bound u mine (local_at s g p h (O5 n u w r) e) f in
-      ends_bound (O5 n u w r) e refl n refl (λ a. refl) b.0 b.1
+      let b = asking_bound u mine (local_at s g p h (Opening n u (O5 w r)) e) f in
+      ends_bound (Opening n u (O5 w r)) e refl n refl (λ a. refl) b.0 b.1
 
-  o2_done : (n : ℕ) (u : Mark) → position_at s p ≡ O2 n u → (b : Bool) → is_mark V u ≡ b → Does s p
-      (cond b (goes s p (O3 n u)) (goes s p (O4 n u First)))
-  o2_done n u e true c = on_opening (O2 n u) (O3 n u) e refl refl refl (omega arith)
-  o2_done n u e false c = on_opening (O2 n u) (O4 n u First) e refl refl refl (omega arith)
+  o2_done : (n : ℕ) (u : Mark) → position_at s p ≡ Opening n u O2 → (b : Bool) → is_mark V u ≡ b → Does s p
+      (cond b (goes s p (Opening n u O3)) (goes s p (Opening n u (O4 First))))
+  o2_done n u e true c = on_opening (Opening n u O2) (Opening n u O3) e refl refl refl (omega arith)
+  o2_done n u e false c = on_opening (Opening n u O2) (Opening n u (O4 First)) e refl refl refl (omega arith)
 
-  again_done : (n : ℕ) (u : Mark) (r : Round) → position_at s p ≡ O6 n u r → is_mark V u ≡ false → Does s p (again s p n u r)
-  again_done n u First e c = on_opening (O6 n u First) (O4 n u Second) e refl refl refl (omega arith)
+  again_done : (n : ℕ) (u : Mark) (r : Round) → position_at s p ≡ Opening n u (O6 r) → is_mark V u ≡ false → Does s p (again s p n u r)
+  again_done n u First e c = on_opening (Opening n u (O6 First)) (Opening n u (O4 Second)) e refl refl refl (omega arith)
   again_done n u Second e c =
-      let b = helped_twice s g p h n u mine (seat_at_is (O6 n u Second) e) c in
-      ends_bound (O6 n u Second) e refl n refl (λ a. refl) b.0 b.1
+      let b = helped_twice s g p h n u mine (seat_at_is (Opening n u (O6 Second)) e) c in
+      ends_bound (Opening n u (O6 Second)) e refl n refl (λ a. refl) b.0 b.1
 
-  o6_done : (n : ℕ) (u : Mark) (r : Round) → position_at s p ≡ O6 n u r → (b : Bool) → is_mark V u ≡ b → Does s p
-      (cond b (goes s p (O3 n u)) (again s p n u r))
-  o6_done n u r e true c = on_opening (O6 n u r) (O3 n u) e refl refl refl (in_round_one r 5 2 (omega arith) (omega arith))
+  o6_done : (n : ℕ) (u : Mark) (r : Round) → position_at s p ≡ Opening n u (O6 r) → (b : Bool) → is_mark V u ≡ b → Does s p
+      (cond b (goes s p (Opening n u O3)) (again s p n u r))
+  o6_done n u r e true c = on_opening (Opening n u (O6 r)) (Opening n u O3) e refl refl refl (in_round_one r 5 2 (omega arith) (omega arith))
   o6_done n u r e false c = again_done n u r e c
 
   -- over a version with the current serial, V is that version
   over_old : (over : Mark) → mine ≡ announcement.Plain over → is_mark V over ≡ false → over.serial ≡ V.serial → ⊥
   over_old over a c e = clash (is_mark V over) (same_mark V over (sym (current_only s g p over (says_mentions s p over a) (g.held p over a) e))) c
 
-  f1_done : (r : ℕ) (over : Mark) (i : ℕ) → position_at s p ≡ F1 r over i → (x : Slot) → slot_at s i ≡ x → Does s p (searches s p r over i x)
+  f1_done : (r : ℕ) (over : Mark) (i : ℕ) → position_at s p ≡ Offering r over i F1 → (x : Option Stored) → slot_at s i ≡ x → Does s p (searches s p r over i x)
   f1_done r over i e = go
     where
       a : mine ≡ announcement.Plain over
-      a = plain_at s g p h (F1 r over i) e over refl
+      a = plain_at s g p h (Offering r over i F1) e over refl
 
-      is : seat_at s p ≡ seat (F1 r over i) (announcement.Plain over)
-      is = seat_is s p (F1 r over i) (announcement.Plain over) e a
+      is : seat_at s p ≡ seat (Offering r over i F1) (announcement.Plain over)
+      is = seat_is s p (Offering r over i F1) (announcement.Plain over) e a
 
       near : i ≤ 3 * s.programs
-      near = leb-true i (3 * s.programs) (ranged_at s g p h (F1 r over i) e)
+      near = leb-true i (3 * s.programs) (ranged_at s g p h (Offering r over i F1) e)
 
-      go : (x : Slot) → slot_at s i ≡ x → Does s p (searches s p r over i x)
-      go slot.Empty f =
-          let y = slot.Filled (V.serial + 1) r Usable in
-          let new = seat (F2 r over i 0) mine in
-          continues s g p h (fill s i y) new refl refl refl (seat (F1 r over i) mine) (seat_at_is (F1 r over i) e) refl (omega (arith, near))
+      go : (x : Option Stored) → slot_at s i ≡ x → Does s p (searches s p r over i x)
+      go None f =
+          let y = Some (stored (V.serial + 1) r Usable) in
+          let new = seat (Offering r over i (F2 0)) mine in
+          continues s g p h (fill s i y) new refl refl refl (seat (Offering r over i F1) mine) (seat_at_is (Offering r over i F1) e) refl (omega (arith, near))
           (fills s g p h i y new (omega (arith, near, g.sized.2))
           (λ (k : i ≡ V.slot). empty_usable (slot_at s V.slot) (ap (slot_at s) (sym k) ∙ f) g.current.1)
           (ap owned e) refl f)
-      go (slot.Filled n m st) f = test (ltb i (3 * s.programs)) refl
+      go (Some y) f = test (ltb i (3 * s.programs)) refl
         where
           full : filled (slot_at s i) ≡ true
           full = ap filled f
 
-          test : (b : Bool) → ltb i (3 * s.programs) ≡ b → Does s p (cond b (goes s p (F1 r over (i + 1))) (stepped (go_to s p (Offered over)) Stale))
-          test true l = goes_on s g p h (seat (F1 r over i) mine) (seat (F1 r over (i + 1)) mine) (seat_at_is (F1 r over i) e) refl refl
+          test : (b : Bool) → ltb i (3 * s.programs) ≡ b → Does s p (cond b (goes s p (Offering r over (i + 1) F1)) (stepped (go_to s p (Offered over)) Stale))
+          test true l = goes_on s g p h (seat (Offering r over i F1) mine) (seat (Offering r over (i + 1) F1) mine) (seat_at_is (Offering r over i F1) e) refl refl
               (omega (arith, near))
-          test false l = gives_up s g p h s (seat (Offered over) mine) refl refl refl (seat (F1 r over i) mine)
-              (seat_at_is (F1 r over i) e) r over refl refl
+          test false l = gives_up s g p h s (seat (Offered over) mine) refl refl refl (seat (Offering r over i F1) mine)
+              (seat_at_is (Offering r over i F1) e) r over refl refl
               (λ k. search_ends s g p h r over i is
               (same_mark over V (current_only s g p over (says_mentions s p over a) (g.held p over a) k)) full (ltb-false i (3 * s.programs) l))
-              (unmoved s g p h (seat (F1 r over i) mine) (seat (Offered over) mine) (seat_at_is (F1 r over i) e) refl)
+              (unmoved s g p h (seat (Offering r over i F1) mine) (seat (Offered over) mine) (seat_at_is (Offering r over i F1) e) refl)
 
   -- an offer gives up, over an old version
   stale_done : (at : Position) (r : ℕ) (over : Mark) (i f : ℕ) → position_at s p ≡ at → offerer s.programs at ≡ owns r over i f
@@ -199,122 +201,122 @@ module _ (s : State) (g : Good s) (p : ℕ) (h : p < s.programs) where
       let owned_here : owned (position_at s p) ≡ Some i = owner_owns s.programs (position_at s p) r over i f here in
       let good = g.own p r over i f here in
       let new = seat (Offered over) mine in
-      gives_up s g p h (fill s i slot.Empty) new refl refl refl (seat at mine) (seat_at_is at e) r over (st mine) refl (over_old over a c)
-      (empties s g p h i slot.Empty new (in_slots i good.0)
+      gives_up s g p h (fill s i None) new refl refl refl (seat at mine) (seat_at_is at e) r over (st mine) refl (over_old over a c)
+      (empties s g p h i None new (in_slots i good.0)
       (λ (k : i ≡ V.slot). g.current.3 p (owned_here ∙ ap {B = Option ℕ} Some k)) owned_here refl refl)
     where
       in_slots : (i : ℕ) → usable (slot_at s i) ≡ true → i < length s.slots
       in_slots i u = ⊎_elim (λ (l : i < length s.slots). l)
-          (λ (b : length s.slots ≤ i). empty_usable (slot_at s i) (get_or_past s.slots i slot.Empty b) u)
+          (λ (b : length s.slots ≤ i). empty_usable (slot_at s i) (get_or_past s.slots i None b) u)
           (cases_lt i (length s.slots))
 
-  f3_done : (r : ℕ) (over : Mark) (i : ℕ) → position_at s p ≡ F3 r over i → (b : Bool) → is_mark V over ≡ b
+  f3_done : (r : ℕ) (over : Mark) (i : ℕ) → position_at s p ≡ Offering r over i F3 → (b : Bool) → is_mark V over ≡ b
       → Does s p (cond b
       (stepped (go_to (advance s (mark (serial_in (slot_at s i)) i)) p (Offered over)) (Accepted (serial_in (slot_at s i))))
       (stales s p over i))
   f3_done r over i e true c =
-      let a = plain_at s g p h (F3 r over i) e over refl in
+      let a = plain_at s g p h (Offering r over i F3) e over refl in
       subst (λ y. Does s p (stepped (put (advance s (mark (serial_in (slot_at s i)) i)) p (seat (Offered over) y)) (Accepted (serial_in (slot_at s i)))))
       (sym a)
-      (accepts s g p h r over i (seat_is s p (F3 r over i) (announcement.Plain over) e a) (mark_flip over V ∙ c))
-  f3_done r over i e false c = stale_done (F3 r over i) r over i s.programs e refl refl (λ a. refl) c
+      (accepts s g p h r over i (seat_is s p (Offering r over i F3) (announcement.Plain over) e a) (mark_flip over V ∙ c))
+  f3_done r over i e false c = stale_done (Offering r over i F3) r over i s.programs e refl refl (λ a. refl) c
 
   -- the next program, or the next label after the last one
-  next_done : (at next last : Position) (x : ℕ) → position_at s p ≡ at → owned next ≡ owned at → owned last ≡ owned at
-      → stage_from mine next ≡ stage_from mine at → stage_from mine last ≡ stage_from mine at
-      → (x + 1 < s.programs → left_at s.programs next < left_at s.programs at)
-      → (s.programs ≤ x + 1 → left_at s.programs last < left_at s.programs at)
-      → (b : Bool) → ltb (x + 1) s.programs ≡ b → Does s p (goes s p (cond b next last))
-  next_done at next last x e o q st su less more true l = goes_on s g p h (seat at mine) (seat next mine) (seat_at_is at e) o st
+  next_done : {A : Type 0} (f : A → Position) (at : Position) (next last : A) (x : ℕ) → position_at s p ≡ at → owned (f next) ≡ owned at → owned (f last) ≡ owned at
+      → stage_from mine (f next) ≡ stage_from mine at → stage_from mine (f last) ≡ stage_from mine at
+      → (x + 1 < s.programs → left_at s.programs (f next) < left_at s.programs at)
+      → (s.programs ≤ x + 1 → left_at s.programs (f last) < left_at s.programs at)
+      → (b : Bool) → ltb (x + 1) s.programs ≡ b → Does s p (goes s p (f (cond b next last)))
+  next_done f at next last x e o q st su less more true l = goes_on s g p h (seat at mine) (seat (f next) mine) (seat_at_is at e) o st
       (less (ltb-true (x + 1) s.programs l))
-  next_done at next last x e o q st su less more false l = goes_on s g p h (seat at mine) (seat last mine) (seat_at_is at e) q su
+  next_done f at next last x e o q st su less more false l = goes_on s g p h (seat at mine) (seat (f last) mine) (seat_at_is at e) q su
       (more (ltb-false (x + 1) s.programs l))
 
   -- the same, after x was bound to w
-  bind_done : (at next last : Position) (x : ℕ) (u w : Mark) → position_at s p ≡ at → x < s.programs → (x ≡ p → ⊥)
+  bind_done : {A : Type 0} (f : A → Position) (at : Position) (next last : A) (x : ℕ) (u w : Mark) → position_at s p ≡ at → x < s.programs → (x ≡ p → ⊥)
       → announced_at s x ≡ announcement.Help u
       → since (position_at s x) ≤ w.serial → w.serial ≤ V.serial → 0 < times w.serial (kept_of s)
-      → owned next ≡ owned at → owned last ≡ owned at
-      → ((a : Announcement) → stage_from a next ≡ stage_from a at) → ((a : Announcement) → stage_from a last ≡ stage_from a at)
-      → (x + 1 < s.programs → left_at s.programs next < left_at s.programs at)
-      → (s.programs ≤ x + 1 → left_at s.programs last < left_at s.programs at)
-      → (b : Bool) → ltb (x + 1) s.programs ≡ b → Does s p (goes (announce s x (announcement.Plain w)) p (cond b next last))
-  bind_done at next last x u w e l ne asked from to there o q st su less more b t =
-      subst (λ a. Does s p (stepped (put (announce s x (announcement.Plain w)) p (seat (cond b next last) a)) GoesOn)) (sym same) (go b t)
+      → owned (f next) ≡ owned at → owned (f last) ≡ owned at
+      → ((a : Announcement) → stage_from a (f next) ≡ stage_from a at) → ((a : Announcement) → stage_from a (f last) ≡ stage_from a at)
+      → (x + 1 < s.programs → left_at s.programs (f next) < left_at s.programs at)
+      → (s.programs ≤ x + 1 → left_at s.programs (f last) < left_at s.programs at)
+      → (b : Bool) → ltb (x + 1) s.programs ≡ b → Does s p (goes (announce s x (announcement.Plain w)) p (f (cond b next last)))
+  bind_done f at next last x u w e l ne asked from to there o q st su less more b t =
+      subst (λ a. Does s p (stepped (put (announce s x (announcement.Plain w)) p (seat (f (cond b next last)) a)) GoesOn)) (sym same) (go b t)
     where
       same : announced_at (announce s x (announcement.Plain w)) p ≡ mine
       same = ap (λ y. y.announced) (at_other s x (seat (position_at s x) (announcement.Plain w)) (omega (arith, l, g.sized.3)) p
           (λ (k : p ≡ x). ne (sym k)))
 
       go : (b : Bool) → ltb (x + 1) s.programs ≡ b → Does s p
-          (stepped (put (announce s x (announcement.Plain w)) p (seat (cond b next last) mine)) GoesOn)
-      go true t = binds s g p h x l ne u w asked (seat at mine) (seat next mine) (seat_at_is at e) o from to there (st mine)
+          (stepped (put (announce s x (announcement.Plain w)) p (seat (f (cond b next last)) mine)) GoesOn)
+      go true t = binds s g p h x l ne u w asked (seat at mine) (seat (f next) mine) (seat_at_is at e) o from to there (st mine)
           (less (ltb-true (x + 1) s.programs t))
-      go false t = binds s g p h x l ne u w asked (seat at mine) (seat last mine) (seat_at_is at e) q from to there (su mine)
+      go false t = binds s g p h x l ne u w asked (seat at mine) (seat (f last) mine) (seat_at_is at e) q from to there (su mine)
           (more (ltb-false (x + 1) s.programs t))
 
   -- what x asks for lies between its beginning and now
   asked_range : (x : ℕ) (u : Mark) → announced_at s x ≡ announcement.Help u → (since (position_at s x) ≤ u.serial) × (u.serial ≤ V.serial)
   asked_range x u a = (g.since x u (asks_mentions s x u a), (g.seen x u (asks_mentions s x u a)).0)
 
-  f2_done : (r : ℕ) (over : Mark) (i x : ℕ) → position_at s p ≡ F2 r over i x → (b c : Bool) → flagged (announced_at s x) ≡ b → is_mark V over ≡ c
+  f2_done : (r : ℕ) (over : Mark) (i x : ℕ) → position_at s p ≡ Offering r over i (F2 x) → (b c : Bool) → flagged (announced_at s x) ≡ b → is_mark V over ≡ c
       → Does s p (cond b
       (cond c
-      (goes (announce s x (announcement.Plain over)) p (next_or s.programs x (F2 r over i (x + 1)) (F3 r over i)))
+      (goes (announce s x (announcement.Plain over)) p (Offering r over i (next_or s.programs x (F2 (x + 1)) F3)))
       (stales s p over i))
-      (goes s p (next_or s.programs x (F2 r over i (x + 1)) (F3 r over i))))
+      (goes s p (Offering r over i (next_or s.programs x (F2 (x + 1)) F3))))
   f2_done r over i x e = go
     where
       a : mine ≡ announcement.Plain over
-      a = plain_at s g p h (F2 r over i x) e over refl
+      a = plain_at s g p h (Offering r over i (F2 x)) e over refl
 
       below_all : x < s.programs
-      below_all = ltb-true x s.programs (and_parts (leb i (3 * s.programs)) (ltb x s.programs) (ranged_at s g p h (F2 r over i x) e)).1
+      below_all = ltb-true x s.programs (and_parts (leb i (3 * s.programs)) (ltb x s.programs) (ranged_at s g p h (Offering r over i (F2 x)) e)).1
 
       go : (b c : Bool) → flagged (announced_at s x) ≡ b → is_mark V over ≡ c
           → Does s p (cond b
           (cond c
-          (goes (announce s x (announcement.Plain over)) p (next_or s.programs x (F2 r over i (x + 1)) (F3 r over i)))
+          (goes (announce s x (announcement.Plain over)) p (Offering r over i (next_or s.programs x (F2 (x + 1)) F3)))
           (stales s p over i))
-          (goes s p (next_or s.programs x (F2 r over i (x + 1)) (F3 r over i))))
+          (goes s p (Offering r over i (next_or s.programs x (F2 (x + 1)) F3))))
       go true true f c =
           let asked = flag_on (announced_at s x) f in
           let range = asked_range x asked.0 asked.1 in
           let is = mark_same V over c in
           let serial_is : V.serial ≡ over.serial = ap (λ v. v.serial) is in
-          bind_done (F2 r over i x) (F2 r over i (x + 1)) (F3 r over i) x asked.0 over e below_all
+          bind_done (Offering r over i) (Offering r over i (F2 x)) (F2 (x + 1)) F3 x asked.0 over e below_all
           (λ (k : x ≡ p). clash (flagged (announced_at s x)) f (ap (λ q. flagged (announced_at s q)) k ∙ ap flagged a))
           asked.1 (omega (arith, range.0, range.1)) (omega arith)
           (mentioned_times s g p over (says_mentions s p over a) (g.held p over a))
           refl refl (λ b. refl) (λ b. refl) (λ l. omega arith) (λ l. omega (arith, below_all)) (ltb (x + 1) s.programs) refl
-      go true false f c = stale_done (F2 r over i x) r over i x e refl refl (λ b. refl) c
-      go false c f d = next_done (F2 r over i x) (F2 r over i (x + 1)) (F3 r over i) x e refl refl refl refl
+      go true false f c = stale_done (Offering r over i (F2 x)) r over i x e refl refl (λ b. refl) c
+      go false c f d = next_done (Offering r over i) (Offering r over i (F2 x)) (F2 (x + 1)) F3 x e refl refl refl refl
           (λ l. omega arith) (λ l. omega (arith, below_all)) (ltb (x + 1) s.programs) refl
 
-  c4_done : (v : Mark) (x : ℕ) → position_at s p ≡ C4 v x → (b : Bool) → asks v (announced_at s x) ≡ b
+  c4_done : (v : Mark) (x : ℕ) → position_at s p ≡ Closing v (C4 x) → (b : Bool) → asks v (announced_at s x) ≡ b
       → Does s p (cond b
-      (goes (announce s x (announcement.Plain v)) p (next_or s.programs x (C4 v (x + 1)) (C5 v)))
-      (goes s p (next_or s.programs x (C4 v (x + 1)) (C5 v))))
+      (goes (announce s x (announcement.Plain v)) p (Closing v (next_or s.programs x (C4 (x + 1)) C5)))
+      (goes s p (Closing v (next_or s.programs x (C4 (x + 1)) C5))))
   c4_done v x e b f =
-      let below_all : x < s.programs = ltb-true x s.programs (ranged_at s g p h (C4 v x) e) in
+      let below_all : x < s.programs = ltb-true x s.programs (ranged_at s g p h (Closing v (C4 x)) e) in
       go b f below_all
     where
       a : mine ≡ announcement.Empty
-      a = empty_at s g p h (C4 v x) e refl
+      a = empty_at s g p h (Closing v (C4 x)) e refl
 
       go : (b : Bool) → asks v (announced_at s x) ≡ b → x < s.programs
           → Does s p (cond b
-          (goes (announce s x (announcement.Plain v)) p (next_or s.programs x (C4 v (x + 1)) (C5 v)))
-          (goes s p (next_or s.programs x (C4 v (x + 1)) (C5 v))))
+          (goes (announce s x (announcement.Plain v)) p (Closing v (next_or s.programs x (C4 (x + 1)) C5)))
+          (goes s p (Closing v (next_or s.programs x (C4 (x + 1)) C5))))
       go true f below_all =
           let asked = asks_help v (announced_at s x) f in
           let range = asked_range x v asked in
-          bind_done (C4 v x) (C4 v (x + 1)) (C5 v) x v v e below_all
+          bind_done (Closing v) (Closing v (C4 x)) (C4 (x + 1)) C5 x v v e below_all
           (λ (k : x ≡ p). clash (asks v (announced_at s x)) f (ap (λ q. asks v (announced_at s q)) k ∙ ap (asks v) a))
           asked range.0 range.1
           (mentioned_times s g p v (inl (ap about e)) (g.pended p v x (ap (closer s.programs) e)).0)
           refl refl (λ b. refl) (λ b. refl) (λ l. omega arith) (λ l. omega arith) (ltb (x + 1) s.programs) refl
-      go false f below_all = next_done (C4 v x) (C4 v (x + 1)) (C5 v) x e refl refl refl refl
+      go false f below_all = next_done (Closing v) (Closing v (C4 x)) (C4 (x + 1)) C5 x e refl refl refl refl
           (λ l. omega arith) (λ l. omega arith) (ltb (x + 1) s.programs) refl
 
   -- a close ends with nothing
@@ -322,16 +324,16 @@ module _ (s : State) (g : Good s) (p : ℕ) (h : p < s.programs) where
       → Does s p (stepped (go_to s p Idle) Nothing)
   ends_close at v e free st = leaves_off s g p h (seat at mine) (seat Idle mine) (seat_at_is at e) (sym free) v.serial (st mine) refl
 
-  c2_done : (v : Mark) → position_at s p ≡ C2 v → (b : Bool) → is_mark V v ≡ b → Does s p (cond b (stepped (go_to s p Idle) Nothing) (goes s p (C3 v)))
-  c2_done v e true c = ends_close (C2 v) v e refl (λ a. refl)
-  c2_done v e false c = on_opening (C2 v) (C3 v) e refl refl refl (omega arith)
+  c2_done : (v : Mark) → position_at s p ≡ Closing v C2 → (b : Bool) → is_mark V v ≡ b → Does s p (cond b (stepped (go_to s p Idle) Nothing) (goes s p (Closing v C3)))
+  c2_done v e true c = ends_close (Closing v C2) v e refl (λ a. refl)
+  c2_done v e false c = on_opening (Closing v C2) (Closing v C3) e refl refl refl (omega arith)
 
-  c6_done : (v : Mark) (x : ℕ) → position_at s p ≡ C6 v x → (b : Bool) → bears v (announced_at s x) ≡ b
-      → Does s p (cond b (stepped (go_to s p Idle) Nothing) (goes s p (next_or s.programs x (C6 v (x + 1)) (C7 v))))
-  c6_done v x e true f = ends_close (C6 v x) v e refl (λ a. refl)
+  c6_done : (v : Mark) (x : ℕ) → position_at s p ≡ Closing v (C6 x) → (b : Bool) → bears v (announced_at s x) ≡ b
+      → Does s p (cond b (stepped (go_to s p Idle) Nothing) (goes s p (Closing v (next_or s.programs x (C6 (x + 1)) C7))))
+  c6_done v x e true f = ends_close (Closing v (C6 x)) v e refl (λ a. refl)
   c6_done v x e false f =
-      let below_all : x < s.programs = ltb-true x s.programs (ranged_at s g p h (C6 v x) e) in
-      next_done (C6 v x) (C6 v (x + 1)) (C7 v) x e refl refl refl refl (λ l. omega arith) (λ l. omega arith) (ltb (x + 1) s.programs) refl
+      let below_all : x < s.programs = ltb-true x s.programs (ranged_at s g p h (Closing v (C6 x)) e) in
+      next_done (Closing v) (Closing v (C6 x)) (C6 (x + 1)) C7 x e refl refl refl refl (λ l. omega arith) (λ l. omega arith) (ltb (x + 1) s.programs) refl
 
   -- a status changes, and the close goes on
   restate_done : (at to : Position) (v : Mark) (st : Status) → position_at s p ≡ at → Holds s v → owned at ≡ None → owned to ≡ None
@@ -341,71 +343,75 @@ module _ (s : State) (g : Good s) (p : ℕ) (h : p < s.programs) where
       continues s g p h (fill s v.slot (restated st (slot_at s v.slot))) (seat to mine) refl refl refl (seat at mine) (seat_at_is at e) same fewer
       (restates s g p h v.slot st (seat to mine) (holds_in_range s v t) (none ∙ sym (ap owned e ∙ free)))
 
-  c3_done : (v : Mark) → position_at s p ≡ C3 v → (x : Slot) → slot_at s v.slot ≡ x → Does s p (looks s p v x)
+  c3_done : (v : Mark) → position_at s p ≡ Closing v C3 → (x : Option Stored) → slot_at s v.slot ≡ x → Does s p (looks s p v x)
   c3_done v e = go
     where
       end : Does s p (stepped (go_to s p Idle) Nothing)
-      end = ends_close (C3 v) v e refl (λ a. refl)
+      end = ends_close (Closing v C3) v e refl (λ a. refl)
 
-      go : (x : Slot) → slot_at s v.slot ≡ x → Does s p (looks s p v x)
-      go slot.Empty f = end
-      go (slot.Filled n r Usable) f = test (eqb n v.serial) refl
+      go_on : (n r : ℕ) (st : Status) → slot_at s v.slot ≡ Some (stored n r st) → Does s p (looks_on s p v n r st)
+      go_on n r Usable f = test (eqb n v.serial) refl
         where
           test : (b : Bool) → eqb n v.serial ≡ b → Does s p
-              (cond b (goes (fill s v.slot (slot.Filled n r Pending)) p (C4 v 0)) (stepped (go_to s p Idle) Nothing))
-          test true c = subst (λ y. Does s p (goes (fill s v.slot y) p (C4 v 0))) (ap (restated Pending) f)
-              (restate_done (C3 v) (C4 v 0) v Pending e (ap (holds v) f ∙ c) refl refl refl (omega arith))
+              (cond b (goes (fill s v.slot (Some (stored n r Pending))) p (Closing v (C4 0))) (stepped (go_to s p Idle) Nothing))
+          test true c = subst (λ y. Does s p (goes (fill s v.slot y) p (Closing v (C4 0)))) (ap (restated Pending) f)
+              (restate_done (Closing v C3) (Closing v (C4 0)) v Pending e (ap (holds v) f ∙ c) refl refl refl (omega arith))
           test false c = end
-      go (slot.Filled n r Pending) f = end
-      go (slot.Filled n r Frozen) f = test (eqb n v.serial) refl
+      go_on n r Pending f = end
+      go_on n r Frozen f = test (eqb n v.serial) refl
         where
-          test : (b : Bool) → eqb n v.serial ≡ b → Does s p (cond b (goes s p (C6 v 0)) (stepped (go_to s p Idle) Nothing))
-          test true c = on_opening (C3 v) (C6 v 0) e refl refl refl (omega arith)
+          test : (b : Bool) → eqb n v.serial ≡ b → Does s p (cond b (goes s p (Closing v (C6 0))) (stepped (go_to s p Idle) Nothing))
+          test true c = on_opening (Closing v C3) (Closing v (C6 0)) e refl refl refl (omega arith)
           test false c = end
 
-  c7_done : (v : Mark) → position_at s p ≡ C7 v → (x : Slot) → slot_at s v.slot ≡ x → Does s p (hands s p v x)
+      go : (x : Option Stored) → slot_at s v.slot ≡ x → Does s p (looks s p v x)
+      go None f = end
+      go (Some x) f = go_on x.serial x.root x.status f
+
+  c7_done : (v : Mark) → position_at s p ≡ Closing v C7 → (x : Option Stored) → slot_at s v.slot ≡ x → Does s p (hands s p v x)
   c7_done v e = go
     where
       end : Does s p (stepped (go_to s p Idle) Nothing)
-      end = ends_close (C7 v) v e refl (λ a. refl)
+      end = ends_close (Closing v C7) v e refl (λ a. refl)
 
-      go : (x : Slot) → slot_at s v.slot ≡ x → Does s p (hands s p v x)
-      go slot.Empty f = end
-      go (slot.Filled n r Usable) f = end
-      go (slot.Filled n r Pending) f = end
-      go (slot.Filled n r Frozen) f = test (eqb n v.serial) refl
+      go_on : (n r : ℕ) (st : Status) → slot_at s v.slot ≡ Some (stored n r st) → Does s p (hands_on s p v n st)
+      go_on n r Usable f = end
+      go_on n r Pending f = end
+      go_on n r Frozen f = test (eqb n v.serial) refl
         where
           a : mine ≡ announcement.Empty
-          a = empty_at s g p h (C7 v) e refl
+          a = empty_at s g p h (Closing v C7) e refl
 
           test : (b : Bool) → eqb n v.serial ≡ b → Does s p
-              (cond b (stepped (go_to (fill s v.slot slot.Empty) p Idle) (HandedOut v.serial)) (stepped (go_to s p Idle) Nothing))
-          test true c = subst (λ y. Does s p (stepped (put (fill s v.slot slot.Empty) p (seat Idle y)) (HandedOut v.serial))) (sym a)
-              (hands_out s g p h v (seat_is s p (C7 v) announcement.Empty e a) (ap (holds v) f ∙ c) (ap frozen f))
+              (cond b (stepped (go_to (fill s v.slot None) p Idle) (HandedOut v.serial)) (stepped (go_to s p Idle) Nothing))
+          test true c = subst (λ y. Does s p (stepped (put (fill s v.slot None) p (seat Idle y)) (HandedOut v.serial))) (sym a)
+              (hands_out s g p h v (seat_is s p (Closing v C7) announcement.Empty e a) (ap (holds v) f ∙ c) (ap frozen f))
           test false c = end
 
+      go : (x : Option Stored) → slot_at s v.slot ≡ x → Does s p (hands s p v x)
+      go None f = end
+      go (Some x) f = go_on x.serial x.root x.status f
+
   done_at : (at : Position) → position_at s p ≡ at → moving (stage_from mine at) ≡ true → Does s p (step_at s p at)
-  done_at Idle e m = false_true m
-  done_at (O1 n u) e m = goes_on s g p h (seat (O1 n u) announcement.Empty) (seat (O2 n u) (announcement.Help u))
-      (seat_is s p (O1 n u) announcement.Empty e (empty_at s g p h (O1 n u) e refl)) refl refl (omega arith)
-  done_at (O2 n u) e m = o2_done n u e (is_mark V u) refl
-  done_at (O3 n u) e m = o3_done n u e (asks u mine) refl
-  done_at (O4 n u r) e m = on_opening (O4 n u r) (O5 n u V r) e refl refl refl (in_round_less r 6 3 7 4 (omega arith) (omega arith))
-  done_at (O5 n u w r) e m = o5_done n u w r e (asks u mine) refl
-  done_at (O6 n u r) e m = o6_done n u r e (is_mark V u) refl
-  done_at (Open v) e m = false_true m
-  done_at (F1 r over i) e m = f1_done r over i e (slot_at s i) refl
-  done_at (F2 r over i x) e m = f2_done r over i x e (flagged (announced_at s x)) (is_mark V over) refl refl
-  done_at (F3 r over i) e m = f3_done r over i e (is_mark V over) refl
-  done_at (Offered v) e m = false_true m
-  done_at (C1 v) e m = goes_on s g p h (seat (C1 v) mine) (seat (C2 v) announcement.Empty) (seat_at_is (C1 v) e) refl refl (omega arith)
-  done_at (C2 v) e m = c2_done v e (is_mark V v) refl
-  done_at (C3 v) e m = c3_done v e (slot_at s v.slot) refl
-  done_at (C4 v x) e m = c4_done v x e (asks v (announced_at s x)) refl
-  done_at (C5 v) e m = restate_done (C5 v) (C6 v 0) v Frozen e (g.pended p v s.programs (ap (closer s.programs) e)).0 refl refl refl
+  done_at (Opening n u O1) e m = goes_on s g p h (seat (Opening n u O1) announcement.Empty) (seat (Opening n u O2) (announcement.Help u))
+      (seat_is s p (Opening n u O1) announcement.Empty e (empty_at s g p h (Opening n u O1) e refl)) refl refl (omega arith)
+  done_at (Opening n u O2) e m = o2_done n u e (is_mark V u) refl
+  done_at (Opening n u O3) e m = o3_done n u e (asks u mine) refl
+  done_at (Opening n u (O4 r)) e m = on_opening (Opening n u (O4 r)) (Opening n u (O5 V r)) e refl refl refl (in_round_less r 6 3 7 4 (omega arith) (omega arith))
+  done_at (Opening n u (O5 w r)) e m = o5_done n u w r e (asks u mine) refl
+  done_at (Opening n u (O6 r)) e m = o6_done n u r e (is_mark V u) refl
+  done_at (Offering r over i F1) e m = f1_done r over i e (slot_at s i) refl
+  done_at (Offering r over i (F2 x)) e m = f2_done r over i x e (flagged (announced_at s x)) (is_mark V over) refl refl
+  done_at (Offering r over i F3) e m = f3_done r over i e (is_mark V over) refl
+  done_at (Closing v C1) e m = goes_on s g p h (seat (Closing v C1) mine) (seat (Closing v C2) announcement.Empty) (seat_at_is (Closing v C1) e) refl refl (omega arith)
+  done_at (Closing v C2) e m = c2_done v e (is_mark V v) refl
+  done_at (Closing v C3) e m = c3_done v e (slot_at s v.slot) refl
+  done_at (Closing v (C4 x)) e m = c4_done v x e (asks v (announced_at s x)) refl
+  done_at (Closing v C5) e m = restate_done (Closing v C5) (Closing v (C6 0)) v Frozen e (g.pended p v s.programs (ap (closer s.programs) e)).0 refl refl refl
       (omega arith)
-  done_at (C6 v x) e m = c6_done v x e (bears v (announced_at s x)) refl
-  done_at (C7 v) e m = c7_done v e (slot_at s v.slot) refl
+  done_at (Closing v (C6 x)) e m = c6_done v x e (bears v (announced_at s x)) refl
+  done_at (Closing v C7) e m = c7_done v e (slot_at s v.slot) refl
+  done_at _ e m = false_true m
 
   -- a step where one is allowed has the effects that a keeper owes
   pub step_done : moving (stage_in (seat_at s p)) ≡ true → StepDone (meaning_of s) p (meaning_of (step s p).after) (step s p).outcome

@@ -2,16 +2,16 @@
 use Rattle.std.proofs.Common.{◌≡◌, ℕ, suc, ◌+◌, ◌*◌, ◌<◌, ◌≤◌, Bool, true, false, cond, eqb, List, [], ◌∷◌, length, get_or, Some, None, Option, sym, refl, ap, ◌∙◌, ⊎_elim, arith}
 use Rattle.std.proofs.lemmas.Bool.{cases_lt, eq-eqb, ne_eqb, eqb-true}
 use Rattle.std.proofs.lemmas.List.{get_or_past}
+use Rattle.std.proofs.lemmas.Option.{same_Some}
 use Rattle.keeper.specs.Totals.{total}
 use Rattle.keeper.proofs.Totals.{total_at}
-use Rattle.announcement_theory.specs.declared.slot.Slot.{Slot}
-use Rattle.announcement_theory.specs.declared.slot.Slot.TheVariants as slot
+use Rattle.announcement_theory.specs.declared.slot.Stored.{Stored}
 use Rattle.announcement_theory.specs.declared.seat.Seat.{Seat}
 use Rattle.announcement_theory.specs.State.{State, unseated, slot_at, position_at}
 use Rattle.announcement_theory.specs.Tests.{filled, serial_in, root_in}
 use Rattle.announcement_theory.specs.Views.{owned}
 use Rattle.announcement_theory.specs.Invariant.{Kept, Good}
-use Rattle.announcement_theory.proofs.Basics.{false_true, true_false, some_same, none_some, beyond}
+use Rattle.announcement_theory.proofs.Basics.{false_true, true_false, none_some, beyond}
 use Rattle.keeper.specs.declared.version.Version.{Version}
 use Rattle.keeper.specs.Meaning.{version}
 use Rattle.announcement_theory.specs.Means.{is_slot, owners, entry_in, entry_at}
@@ -40,19 +40,19 @@ module _ (s : State) where
       (λ (m : length s.seats ≤ z). none_some j (sym (ap (λ x. owned x.position) (beyond s z m)) ∙ e))
       (cases_lt z (length s.seats))
 
-  entry_free : (x : Slot) → filled x ≡ true → entry_in x true ≡ Some (version (serial_in x) (root_in x))
-  entry_free slot.Empty e = false_true e
-  entry_free (slot.Filled n r st) e = refl
+  entry_free : (x : Option Stored) → filled x ≡ true → entry_in x true ≡ Some (version (serial_in x) (root_in x))
+  entry_free None e = false_true e
+  entry_free (Some x) e = refl
 
   -- a kept slot gives its version
   pub entry_kept : (j : ℕ) → Kept s j → entry_at s j ≡ Some (version (serial_in (slot_at s j)) (root_in (slot_at s j)))
   entry_kept j k = ap (entry_in (slot_at s j)) (eq-eqb (owners s j) 0 (unowned_free j k.1)) ∙ entry_free (slot_at s j) k.0
 
   -- a slot that gives a version is kept
-  entry_is : (x : Slot) (b : Bool) (v : Version) → entry_in x b ≡ Some v → (filled x ≡ true) × (b ≡ true) × (v ≡ version (serial_in x) (root_in x))
-  entry_is slot.Empty b v e = none_some v e
-  entry_is (slot.Filled n r st) true v e = (refl, refl, sym (some_same (version n r) v e))
-  entry_is (slot.Filled n r st) false v e = none_some v e
+  entry_is : (x : Option Stored) (b : Bool) (v : Version) → entry_in x b ≡ Some v → (filled x ≡ true) × (b ≡ true) × (v ≡ version (serial_in x) (root_in x))
+  entry_is None b v e = none_some v e
+  entry_is (Some x) true v e = (refl, refl, sym (same_Some (version x.serial x.root) v e))
+  entry_is (Some x) false v e = none_some v e
 
   pub kept_entry : (j : ℕ) (v : Version) → entry_at s j ≡ Some v → Kept s j × (v ≡ version (serial_in (slot_at s j)) (root_in (slot_at s j)))
   kept_entry j v e =
@@ -63,16 +63,16 @@ module _ (s : State) where
   pub entry_taken : (j : ℕ) → 0 < owners s j → entry_at s j ≡ None
   entry_taken j h = go (slot_at s j) (eqb (owners s j) 0) (ne_eqb (owners s j) 0 (λ (e : owners s j ≡ 0). omega arith))
     where
-      go : (x : Slot) (b : Bool) → b ≡ false → entry_in x b ≡ None
-      go slot.Empty b e = refl
-      go (slot.Filled n r st) true e = true_false e
-      go (slot.Filled n r st) false e = refl
+      go : (x : Option Stored) (b : Bool) → b ≡ false → entry_in x b ≡ None
+      go None b e = refl
+      go (Some x) true e = true_false e
+      go (Some x) false e = refl
 
-  pub entry_empty : (j : ℕ) → slot_at s j ≡ slot.Empty → entry_at s j ≡ None
+  pub entry_empty : (j : ℕ) → slot_at s j ≡ None → entry_at s j ≡ None
   entry_empty j e = ap (λ x. entry_in x (eqb (owners s j) 0)) e
 
   pub kept_in_range : Good s → (j : ℕ) → Kept s j → j < 0 + (3 * s.programs + 1)
   kept_in_range g j k = ⊎_elim
       (λ (l : j < length s.slots). omega (arith, g.sized.2))
-      (λ (m : length s.slots ≤ j). false_true (sym (ap filled (get_or_past s.slots j slot.Empty m)) ∙ k.0))
+      (λ (m : length s.slots ≤ j). false_true (sym (ap filled (get_or_past s.slots j None m)) ∙ k.0))
       (cases_lt j (length s.slots))

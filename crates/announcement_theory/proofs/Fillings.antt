@@ -3,29 +3,30 @@ use Rattle.std.proofs.Common.{◌≡◌, ℕ, ◌+◌, ◌*◌, ◌<◌, ◌≤�
 use Rattle.std.proofs.lemmas.Bool.{cases_lt, eqb-true, and_from, lt-ltb, leb-true}
 use Rattle.std.proofs.lemmas.Bool.Decides.{nat_tests}
 use Rattle.std.proofs.lemmas.List.{get_or_past}
+use Rattle.std.proofs.lemmas.Option.{same_Some}
 use Rattle.announcement_theory.specs.declared.mark.Mark.{Mark}
 use Rattle.announcement_theory.specs.declared.slot.Status.TheVariants.{Usable}
-use Rattle.announcement_theory.specs.declared.slot.Slot.{Slot}
-use Rattle.announcement_theory.specs.declared.slot.Slot.TheVariants as slot
+use Rattle.announcement_theory.specs.declared.slot.Stored.{Stored}
 use Rattle.announcement_theory.specs.declared.announcement.Announcement.TheVariants as announcement
-use Rattle.announcement_theory.specs.declared.position.Position.TheVariants.{F1, F2, F3, Offered}
+use Rattle.announcement_theory.specs.declared.position.Position.TheVariants.{Offering, Offered}
+use Rattle.announcement_theory.specs.declared.position.OfferLabel.TheVariants.{F1, F2, F3}
 use Rattle.announcement_theory.specs.declared.seat.Seat.{Seat}
-use Rattle.announcement_theory.specs.State.{State, mark, seat, slot_at, seat_at, position_at, announced_at}
+use Rattle.announcement_theory.specs.State.{State, mark, seat, stored, slot_at, seat_at, position_at, announced_at}
 use Rattle.announcement_theory.specs.Tests.{is_mark, announces, filled, serial_in, root_in, holds, usable}
 use Rattle.announcement_theory.specs.Next.{put, fill}
 use Rattle.announcement_theory.specs.Views.{about, Mentions, owns, offerer, owned, over_in, Closer, stays, pends, sweeps, closer}
 use Rattle.announcement_theory.specs.Shares.{uses, below, used, share_of, owned_below, share, past_of}
 use Rattle.announcement_theory.specs.Invariant.{Holds, waits_on, Good}
-use Rattle.announcement_theory.proofs.Basics.{false_true, some_same, none_some, mark_self, holds_serial, owner_owns, owner_of}
+use Rattle.announcement_theory.proofs.Basics.{false_true, none_some, mark_self, holds_serial, owner_owns, owner_of}
 use Rattle.announcement_theory.proofs.Roles.{closed, closing_about, offering_about, offering_plain}
 use Rattle.announcement_theory.proofs.Good.{Other, Rest, Sound, OwnsAt, Offers, SaysAt, Says, KeptWith, Fits, known, put_good}
 use Rattle.announcement_theory.proofs.Stay.{stay, still_searched}
 use Rattle.announcement_theory.proofs.Writes.{slot_same, slot_other, slot_each, slot_back, written}
 
-pub empty_holds : {A : Type 0} (v : Mark) (x : Slot) → x ≡ slot.Empty → holds v x ≡ true → A
+pub empty_holds : {A : Type 0} (v : Mark) (x : Option Stored) → x ≡ None → holds v x ≡ true → A
 empty_holds v x e h = false_true (sym (ap (holds v) e) ∙ h)
 
-pub empty_usable : {A : Type 0} (x : Slot) → x ≡ slot.Empty → usable x ≡ true → A
+pub empty_usable : {A : Type 0} (x : Option Stored) → x ≡ None → usable x ≡ true → A
 empty_usable x e h = false_true (sym (ap usable e) ∙ h)
 
 -- two versions in one slot are one
@@ -48,9 +49,9 @@ closes_mentions s q v c e f = inl (closing_about s.programs (position_at s q) v 
 
 -- slot i was empty, and becomes the slot of p, with the next serial
 module _ (s : State) (g : Good s) (p : ℕ) (h : p < s.programs) (r : ℕ) (over : Mark) (i : ℕ)
-    (was : seat_at s p ≡ seat (F1 r over i) (announcement.Plain over)) (vacant : slot_at s i ≡ slot.Empty) where
-  abbrev y : Slot
-  y = slot.Filled (s.current.serial + 1) r Usable
+    (was : seat_at s p ≡ seat (Offering r over i F1) (announcement.Plain over)) (vacant : slot_at s i ≡ None) where
+  abbrev y : Option Stored
+  y = Some (stored (s.current.serial + 1) r Usable)
 
   abbrev after : State
   after = fill s i y
@@ -63,7 +64,7 @@ module _ (s : State) (g : Good s) (p : ℕ) (h : p < s.programs) (r : ℕ) (over
   vacant_at v e t = empty_holds v (slot_at s v.slot) (ap (slot_at s) e ∙ vacant) t
 
   in_range : i < length s.slots
-  in_range = omega (arith, g.sized.2, leb-true i (3 * s.programs) (stay s g p h (seat (F1 r over i) (announcement.Plain over)) was).ranged)
+  in_range = omega (arith, g.sized.2, leb-true i (3 * s.programs) (stay s g p h (seat (Offering r over i F1) (announcement.Plain over)) was).ranged)
 
   -- no one mentions the next serial
   unknown : (q : ℕ) (v : Mark) → Mentions (seat_at s q) v → eqb (s.current.serial + 1) v.serial ≡ true → ⊥
@@ -85,10 +86,10 @@ module _ (s : State) (g : Good s) (p : ℕ) (h : p < s.programs) (r : ℕ) (over
       let ne : j ≡ i → ⊥ = λ (e : j ≡ i). k.2 (ap {B = Option ℕ} Some (sym e)) in
       (ne, (subst (λ x. filled x ≡ true) (slot_other s i y in_range j ne) k.0, k.1, λ e. none_some j e))
 
-  pub f1_put_good : Good (put after p (seat (F2 r over i 0) (announcement.Plain over)))
+  pub f1_put_good : Good (put after p (seat (Offering r over i (F2 0)) (announcement.Plain over)))
   f1_put_good =
-      let old = seat (F1 r over i) (announcement.Plain over) in
-      let new = seat (F2 r over i 0) (announcement.Plain over) in
+      let old = seat (Offering r over i F1) (announcement.Plain over) in
+      let new = seat (Offering r over i (F2 0)) (announcement.Plain over) in
       let t = stay s g p h old was in
       let mine : Sound after p 0 over = record {
         from = omega arith;
@@ -104,7 +105,7 @@ module _ (s : State) (g : Good s) (p : ℕ) (h : p < s.programs) (r : ℕ) (over
         knows = (mine, tt, mine);
         self = λ v m e k. slot_back s i y in_range (λ x. holds v x ≡ true) ⊥ v.slot k
             (λ (f : v.slot ≡ i) u. omega (arith, eqb-true (s.current.serial + 1) v.serial u, (known s p old t.knows v m).to))
-            (λ (ne : v.slot ≡ i → ⊥) _. ne (sym (some_same i v.slot e)));
+            (λ (ne : v.slot ≡ i → ⊥) _. ne (sym (same_Some i v.slot e)));
         offers = record {
           usable = ap usable (slot_same s i y in_range);
           root = ap root_in (slot_same s i y in_range);
@@ -144,7 +145,7 @@ module _ (s : State) (g : Good s) (p : ℕ) (h : p < s.programs) (r : ℕ) (over
 module _ (s : State) (g : Good s) (p : ℕ) (h : p < s.programs) (over : Mark) (i : ℕ) (old : Seat) (was : seat_at s p ≡ old) (r f : ℕ)
     (owner : offerer s.programs old.position ≡ owns r over i f) (replaced : is_mark over s.current ≡ false) where
   abbrev emptied : State
-  emptied = fill s i slot.Empty
+  emptied = fill s i None
 
   fit : Fits s p old
   fit = stay s g p h old was
@@ -170,14 +171,14 @@ module _ (s : State) (g : Good s) (p : ℕ) (h : p < s.programs) (over : Mark) (
 
   in_slots : i < length s.slots
   in_slots = ⊎_elim (λ (a : i < length s.slots). a)
-      (λ (b : length s.slots ≤ i). empty_usable (slot_at s i) (get_or_past s.slots i slot.Empty b) own_slot.usable)
+      (λ (b : length s.slots ≤ i). empty_usable (slot_at s i) (get_or_past s.slots i None b) own_slot.usable)
       (cases_lt i (length s.slots))
 
   mentioned : (q : ℕ) → Other p q → (v : Mark) → v.slot ≡ i → Mentions (seat_at s q) v → Holds s v → ⊥
   mentioned q ne v k m t = own_slot.fresh q ne v m k t
 
   rest_emptied : Rest emptied p
-  rest_emptied = written s i slot.Empty in_slots g p (record {
+  rest_emptied = written s i None in_slots g p (record {
     fresh = λ q z ne zn v k m e t. false_true t;
     current = λ e. absurd (own_slot.old (sym e));
     own = λ z ne m o n e. absurd (own_slot.apart z ne (owner_owns s.programs (position_at s z) m o i n e));
@@ -189,9 +190,9 @@ module _ (s : State) (g : Good s) (p : ℕ) (h : p < s.programs) (over : Mark) (
 
   was_kept : (j : ℕ) → KeptWith emptied p None j → (j ≡ i → ⊥) × KeptWith s p (owned old.position) j
   was_kept j k =
-      let ne : j ≡ i → ⊥ = λ (e : j ≡ i). false_true (sym (ap filled (ap (slot_at emptied) e ∙ slot_same s i slot.Empty in_slots)) ∙ k.0) in (
+      let ne : j ≡ i → ⊥ = λ (e : j ≡ i). false_true (sym (ap filled (ap (slot_at emptied) e ∙ slot_same s i None in_slots)) ∙ k.0) in (
         ne,
-        (subst (λ x. filled x ≡ true) (slot_other s i slot.Empty in_slots j ne) k.0, k.1, λ e. ne (some_same j i (sym e ∙ mine_is))),
+        (subst (λ x. filled x ≡ true) (slot_other s i None in_slots j ne) k.0, k.1, λ e. ne (same_Some j i (sym e ∙ mine_is))),
       )
 
   stale_good : closer s.programs old.position ≡ stays → past_of old.position ≡ uses over → Good
@@ -202,7 +203,7 @@ module _ (s : State) (g : Good s) (p : ℕ) (h : p < s.programs) (over : Mark) (
         from = omega arith;
         to = sound_over.to;
         within = sound_over.within;
-        fresh = λ z ne e k. slot_back s i slot.Empty in_slots (λ x. holds over x ≡ true) ⊥ over.slot k
+        fresh = λ z ne e k. slot_back s i None in_slots (λ x. holds over x ≡ true) ⊥ over.slot k
             (λ _ u. false_true u)
             (λ _ u. sound_over.fresh z ne e u);
       } in
@@ -214,7 +215,7 @@ module _ (s : State) (g : Good s) (p : ℕ) (h : p < s.programs) (over : Mark) (
         offers = tt;
         closes = tt;
         says = record {
-          stands = slot_each s i slot.Empty in_slots (λ x. holds over x ≡ true) over.slot
+          stands = slot_each s i None in_slots (λ x. holds over x ≡ true) over.slot
               (λ e. absurd (fit.self over (inl about_over) (mine_is ∙ ap {B = Option ℕ} Some (sym e)) there.stands))
               (λ _. there.stands);
           swept = there.swept;
@@ -223,11 +224,11 @@ module _ (s : State) (g : Good s) (p : ℕ) (h : p < s.programs) (over : Mark) (
         distinct = λ j k a b e.
             let c = was_kept j a in
             let d = was_kept k b in
-            fit.distinct j k c.1 d.1 (sym (ap serial_in (slot_other s i slot.Empty in_slots j c.0)) ∙ e ∙ ap serial_in
-            (slot_other s i slot.Empty in_slots k d.0));
+            fit.distinct j k c.1 d.1 (sym (ap serial_in (slot_other s i None in_slots j c.0)) ∙ e ∙ ap serial_in
+            (slot_other s i None in_slots k d.0));
         wanted = λ j k here rest.
             let c = was_kept j k in
-            let same = slot_other s i slot.Empty in_slots j c.0 in
+            let same = slot_other s i None in_slots j c.0 in
             fit.wanted j c.1
             (λ e. here (subst (λ x. waits_on x (mark (serial_in x) j) (announcement.Plain over) stays ≡ true) (sym same)
             (subst (λ a. waits_on (slot_at s j) (mark (serial_in (slot_at s j)) j) a stays ≡ true) says_over
@@ -248,12 +249,12 @@ module _ (s : State) (g : Good s) (p : ℕ) (h : p < s.programs) (over : Mark) (
           let m : below i k ≤ 1 = grind (arith, nat_tests) in
           omega arith
 
-pub f2_stale_good : (s : State) → Good s → (p : ℕ) → p < s.programs → (r : ℕ) (over : Mark) (i x : ℕ) → seat_at s p ≡ seat (F2 r over i x)
+pub f2_stale_good : (s : State) → Good s → (p : ℕ) → p < s.programs → (r : ℕ) (over : Mark) (i x : ℕ) → seat_at s p ≡ seat (Offering r over i (F2 x))
     (announcement.Plain over)
-    → is_mark over s.current ≡ false → Good (put (fill s i slot.Empty) p (seat (Offered over) (announcement.Plain over)))
-f2_stale_good s g p h r over i x e n = stale_good s g p h over i (seat (F2 r over i x) (announcement.Plain over)) e r x refl n refl refl
+    → is_mark over s.current ≡ false → Good (put (fill s i None) p (seat (Offered over) (announcement.Plain over)))
+f2_stale_good s g p h r over i x e n = stale_good s g p h over i (seat (Offering r over i (F2 x)) (announcement.Plain over)) e r x refl n refl refl
 
-pub f3_stale_good : (s : State) → Good s → (p : ℕ) → p < s.programs → (r : ℕ) (over : Mark) (i : ℕ) → seat_at s p ≡ seat (F3 r over i)
+pub f3_stale_good : (s : State) → Good s → (p : ℕ) → p < s.programs → (r : ℕ) (over : Mark) (i : ℕ) → seat_at s p ≡ seat (Offering r over i F3)
     (announcement.Plain over)
-    → is_mark over s.current ≡ false → Good (put (fill s i slot.Empty) p (seat (Offered over) (announcement.Plain over)))
-f3_stale_good s g p h r over i e n = stale_good s g p h over i (seat (F3 r over i) (announcement.Plain over)) e r s.programs refl n refl refl
+    → is_mark over s.current ≡ false → Good (put (fill s i None) p (seat (Offered over) (announcement.Plain over)))
+f3_stale_good s g p h r over i e n = stale_good s g p h over i (seat (Offering r over i F3) (announcement.Plain over)) e r s.programs refl n refl refl

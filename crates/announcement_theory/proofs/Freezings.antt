@@ -5,12 +5,12 @@ use Rattle.std.proofs.lemmas.List.{get_or_past}
 use Rattle.announcement_theory.specs.declared.mark.Mark.{Mark}
 use Rattle.announcement_theory.specs.declared.slot.Status.{Status}
 use Rattle.announcement_theory.specs.declared.slot.Status.TheVariants.{Pending, Frozen}
-use Rattle.announcement_theory.specs.declared.slot.Slot.{Slot}
-use Rattle.announcement_theory.specs.declared.slot.Slot.TheVariants as slot
+use Rattle.announcement_theory.specs.declared.slot.Stored.{Stored}
 use Rattle.announcement_theory.specs.declared.announcement.Announcement.{Announcement}
 use Rattle.announcement_theory.specs.declared.announcement.Announcement.TheVariants as announcement
 use Rattle.announcement_theory.specs.declared.position.Position.{Position}
-use Rattle.announcement_theory.specs.declared.position.Position.TheVariants.{Idle, C3, C4, C5, C6, C7}
+use Rattle.announcement_theory.specs.declared.position.Position.TheVariants.{Idle, Closing}
+use Rattle.announcement_theory.specs.declared.position.CloseLabel.TheVariants.{C3, C4, C5, C6, C7}
 use Rattle.announcement_theory.specs.declared.seat.Seat.{Seat}
 use Rattle.announcement_theory.specs.State.{State, mark, seat, slot_at, seat_at, position_at, announced_at}
 use Rattle.announcement_theory.specs.Tests.{is_mark, filled, serial_in, holds, usable, pending, frozen, restated}
@@ -25,25 +25,25 @@ use Rattle.announcement_theory.proofs.Shared.{used_most, waits_left, waits_right
 use Rattle.announcement_theory.proofs.Writes.{Written, slot_same, slot_other, slot_each, written}
 use Rattle.announcement_theory.proofs.Fillings.{empty_holds, one_slot}
 
-restated_holds : (st : Status) (v : Mark) (x : Slot) → holds v (restated st x) ≡ holds v x
-restated_holds st v slot.Empty = refl
-restated_holds st v (slot.Filled n r old) = refl
+restated_holds : (st : Status) (v : Mark) (x : Option Stored) → holds v (restated st x) ≡ holds v x
+restated_holds st v None = refl
+restated_holds st v (Some x) = refl
 
-restated_filled : (st : Status) (x : Slot) → filled (restated st x) ≡ filled x
-restated_filled st slot.Empty = refl
-restated_filled st (slot.Filled n r old) = refl
+restated_filled : (st : Status) (x : Option Stored) → filled (restated st x) ≡ filled x
+restated_filled st None = refl
+restated_filled st (Some x) = refl
 
-restated_serial : (st : Status) (x : Slot) → serial_in (restated st x) ≡ serial_in x
-restated_serial st slot.Empty = refl
-restated_serial st (slot.Filled n r old) = refl
+restated_serial : (st : Status) (x : Option Stored) → serial_in (restated st x) ≡ serial_in x
+restated_serial st None = refl
+restated_serial st (Some x) = refl
 
-restated_pending : (x : Slot) → filled x ≡ true → (pending (restated Pending x) ≡ true) × (frozen (restated Pending x) ≡ false)
-restated_pending slot.Empty e = false_true e
-restated_pending (slot.Filled n r old) e = (refl, refl)
+restated_pending : (x : Option Stored) → filled x ≡ true → (pending (restated Pending x) ≡ true) × (frozen (restated Pending x) ≡ false)
+restated_pending None e = false_true e
+restated_pending (Some x) e = (refl, refl)
 
-restated_frozen : (x : Slot) → filled x ≡ true → (frozen (restated Frozen x) ≡ true) × (pending (restated Frozen x) ≡ false)
-restated_frozen slot.Empty e = false_true e
-restated_frozen (slot.Filled n r old) e = (refl, refl)
+restated_frozen : (x : Option Stored) → filled x ≡ true → (frozen (restated Frozen x) ≡ true) × (pending (restated Frozen x) ≡ false)
+restated_frozen None e = false_true e
+restated_frozen (Some x) e = (refl, refl)
 
 -- a program that announces something is one of the programs
 pub seated_below : (s : State) → Good s → (q : ℕ) (a : Announcement) → announced_at s q ≡ a → (a ≡ announcement.Empty → ⊥) → q < s.programs
@@ -66,7 +66,7 @@ help_below s g q v e = seated_below s g q (announcement.Help v) e (help_not_empt
 
 pub holds_in_range : (s : State) (v : Mark) → Holds s v → v.slot < length s.slots
 holds_in_range s v t = ⊎_elim (λ (a : v.slot < length s.slots). a)
-    (λ (b : length s.slots ≤ v.slot). empty_holds v (slot_at s v.slot) (get_or_past s.slots v.slot slot.Empty b) t)
+    (λ (b : length s.slots ≤ v.slot). empty_holds v (slot_at s v.slot) (get_or_past s.slots v.slot None b) t)
     (cases_lt v.slot (length s.slots))
 
 -- the slot of v, which p is closing, gets another status
@@ -75,7 +75,7 @@ module _ (s : State) (g : Good s) (p : ℕ) (h : p < s.programs) (v : Mark) (sta
   abbrev j : ℕ
   j = v.slot
 
-  abbrev y : Slot
+  abbrev y : Option Stored
   y = restated st (slot_at s j)
 
   abbrev after : State
@@ -154,10 +154,10 @@ module _ (s : State) (g : Good s) (p : ℕ) (h : p < s.programs) (v : Mark) (sta
       kept_from a x = (sym (same_filled a) ∙ x.0, x.1, λ e. none_some a (sym free ∙ e))
 
 -- C3: the slot of v was usable
-module _ (s : State) (g : Good s) (p : ℕ) (h : p < s.programs) (v : Mark) (was : seat_at s p ≡ seat (C3 v) announcement.Empty) (stands : Holds s v)
+module _ (s : State) (g : Good s) (p : ℕ) (h : p < s.programs) (v : Mark) (was : seat_at s p ≡ seat (Closing v C3) announcement.Empty) (stands : Holds s v)
     (fine : usable (slot_at s v.slot) ≡ true) where
-  pub c3_pend_good : Good (put (fill s v.slot (restated Pending (slot_at s v.slot))) p (seat (C4 v 0) announcement.Empty))
-  c3_pend_good = restated_good s g p h v stands Pending (C3 v) (C4 v 0) was (record {
+  pub c3_pend_good : Good (put (fill s v.slot (restated Pending (slot_at s v.slot))) p (seat (Closing v (C4 0)) announcement.Empty))
+  c3_pend_good = restated_good s g p h v stands Pending (Closing v C3) (Closing v (C4 0)) was (record {
     fresh = λ q z ne zn w e m o t. g.fresh q z w m (o ∙ ap {B = Option ℕ} Some (sym e)) (from_here w e t);
     current = λ e. absurd (clash (is_mark v V)
         (same_mark v V (one_slot s v V stands (serial_holds V (slot_at s V.slot) (usable_filled (slot_at s V.slot) g.current.1)
@@ -184,32 +184,32 @@ module _ (s : State) (g : Good s) (p : ℕ) (h : p < s.programs) (v : Mark) (was
       (λ k w. ap (λ y. y.slot) (mark_same (mark (serial_in (slot_at s k)) k) v
       (waits_left (pending (slot_at s k)) (is_mark (mark (serial_in (slot_at s k)) k) v) w).1))
     where
-      x : Slot
+      x : Option Stored
       x = slot_at s v.slot
 
       V : Mark
       V = s.current
 
-      fit : Fits s p (seat (C3 v) announcement.Empty)
-      fit = stay s g p h (seat (C3 v) announcement.Empty) was
+      fit : Fits s p (seat (Closing v C3) announcement.Empty)
+      fit = stay s g p h (seat (Closing v C3) announcement.Empty) was
 
       now : slot_at (fill s v.slot (restated Pending x)) v.slot ≡ restated Pending x
       now = slot_same s v.slot (restated Pending x) (holds_in_range s v stands)
 
       to_here : (w : Mark) → w.slot ≡ v.slot → Holds s w → holds w (restated Pending x) ≡ true
-      to_here w e t = still s g p h v stands Pending (C3 v) (C4 v 0) was w e t
+      to_here w e t = still s g p h v stands Pending (Closing v C3) (Closing v (C4 0)) was w e t
 
       from_here : (w : Mark) → w.slot ≡ v.slot → holds w (restated Pending x) ≡ true → Holds s w
-      from_here w e t = back s g p h v stands Pending (C3 v) (C4 v 0) was w e t
+      from_here w e t = back s g p h v stands Pending (Closing v C3) (Closing v (C4 0)) was w e t
 
       waiting : (b m : Bool) → b ≡ true → m ≡ true → cond b m (false || false) ≡ true
       waiting true m e f = f
       waiting false m e f = e
 
 -- C5: the slot of v, which is pending, becomes frozen
-module _ (s : State) (g : Good s) (p : ℕ) (h : p < s.programs) (v : Mark) (was : seat_at s p ≡ seat (C5 v) announcement.Empty) where
-  pub c5_good : Good (put (fill s v.slot (restated Frozen (slot_at s v.slot))) p (seat (C6 v 0) announcement.Empty))
-  c5_good = restated_good s g p h v stands Frozen (C5 v) (C6 v 0) was (record {
+module _ (s : State) (g : Good s) (p : ℕ) (h : p < s.programs) (v : Mark) (was : seat_at s p ≡ seat (Closing v C5) announcement.Empty) where
+  pub c5_good : Good (put (fill s v.slot (restated Frozen (slot_at s v.slot))) p (seat (Closing v (C6 0)) announcement.Empty))
+  c5_good = restated_good s g p h v stands Frozen (Closing v C5) (Closing v (C6 0)) was (record {
     fresh = λ q z ne zn w e m o t. g.fresh q z w m (o ∙ ap {B = Option ℕ} Some (sym e)) (from_here w e t);
     current = λ e. clash (pending x) pend (usable_pending x (subst (λ n. usable (slot_at s n) ≡ true) e g.current.1));
     own = λ z ne r o f e. clash (pending x) pend (usable_pending x (g.own z r o v.slot f e).0);
@@ -236,11 +236,11 @@ module _ (s : State) (g : Good s) (p : ℕ) (h : p < s.programs) (v : Mark) (was
       (λ k w. ap (λ y. y.slot) (mark_same (mark (serial_in (slot_at s k)) k) v
       (pended_on (pending (slot_at s k)) (is_mark (mark (serial_in (slot_at s k)) k) v) w)))
     where
-      x : Slot
+      x : Option Stored
       x = slot_at s v.slot
 
-      fit : Fits s p (seat (C5 v) announcement.Empty)
-      fit = stay s g p h (seat (C5 v) announcement.Empty) was
+      fit : Fits s p (seat (Closing v C5) announcement.Empty)
+      fit = stay s g p h (seat (Closing v C5) announcement.Empty) was
 
       stands : Holds s v
       stands = fit.closes.stands
@@ -252,20 +252,20 @@ module _ (s : State) (g : Good s) (p : ℕ) (h : p < s.programs) (v : Mark) (was
       now = slot_same s v.slot (restated Frozen x) (holds_in_range s v stands)
 
       to_here : (w : Mark) → w.slot ≡ v.slot → Holds s w → holds w (restated Frozen x) ≡ true
-      to_here w e t = still s g p h v stands Frozen (C5 v) (C6 v 0) was w e t
+      to_here w e t = still s g p h v stands Frozen (Closing v C5) (Closing v (C6 0)) was w e t
 
       from_here : (w : Mark) → w.slot ≡ v.slot → holds w (restated Frozen x) ≡ true → Holds s w
-      from_here w e t = back s g p h v stands Frozen (C5 v) (C6 v 0) was w e t
+      from_here w e t = back s g p h v stands Frozen (Closing v C5) (Closing v (C6 0)) was w e t
 
       pended_on : (b m : Bool) → cond b m (false || false) ≡ true → m ≡ true
       pended_on true m e = e
       pended_on false m e = false_true e
 
 -- C7: the slot of v, which is frozen, is emptied
-module _ (s : State) (g : Good s) (p : ℕ) (h : p < s.programs) (v : Mark) (was : seat_at s p ≡ seat (C7 v) announcement.Empty) (stands : Holds s v)
+module _ (s : State) (g : Good s) (p : ℕ) (h : p < s.programs) (v : Mark) (was : seat_at s p ≡ seat (Closing v C7) announcement.Empty) (stands : Holds s v)
     (icy : frozen (slot_at s v.slot) ≡ true) where
-  pub c7_hand_good : Good (put (fill s v.slot slot.Empty) p (seat Idle announcement.Empty))
-  c7_hand_good = put_good after p new (written s v.slot slot.Empty in_slots g p (record {
+  pub c7_hand_good : Good (put (fill s v.slot None) p (seat Idle announcement.Empty))
+  c7_hand_good = put_good after p new (written s v.slot None in_slots g p (record {
     fresh = λ q z ne zn w e m o t. false_true t;
     current = λ e. clash (frozen x) icy (usable_frozen x (subst (λ n. usable (slot_at s n) ≡ true) e g.current.1));
     own = λ z ne r o f e. clash (frozen x) icy (usable_frozen x (g.own z r o v.slot f e).0);
@@ -288,11 +288,11 @@ module _ (s : State) (g : Good s) (p : ℕ) (h : p < s.programs) (v : Mark) (was
     distinct = λ a b c d e.
         let k = was_kept a c in
         let l = was_kept b d in
-        fit.distinct a b k.1 l.1 (sym (ap serial_in (slot_other s v.slot slot.Empty in_slots a k.0)) ∙ e ∙ ap serial_in
-        (slot_other s v.slot slot.Empty in_slots b l.0));
+        fit.distinct a b k.1 l.1 (sym (ap serial_in (slot_other s v.slot None in_slots a k.0)) ∙ e ∙ ap serial_in
+        (slot_other s v.slot None in_slots b l.0));
     wanted = λ a c here rest.
         let k = was_kept a c in
-        let same = slot_other s v.slot slot.Empty in_slots a k.0 in
+        let same = slot_other s v.slot None in_slots a k.0 in
         fit.wanted a k.1
         (λ e. k.0 (ap (λ y. y.slot) (mark_same (mark (serial_in (slot_at s a)) a) v
         (waits_left (pending (slot_at s a)) (is_mark (mark (serial_in (slot_at s a)) a) v) e).1)))
@@ -302,26 +302,26 @@ module _ (s : State) (g : Good s) (p : ℕ) (h : p < s.programs) (v : Mark) (was
     seeking = λ o i e. let z : ◌≡◌ {A = ℕ} 0 1 = cc in absurd (omega arith);
   }) h
     where
-      x : Slot
+      x : Option Stored
       x = slot_at s v.slot
 
       after : State
-      after = fill s v.slot slot.Empty
+      after = fill s v.slot None
 
       old : Seat
-      old = seat (C7 v) announcement.Empty
+      old = seat (Closing v C7) announcement.Empty
 
       new : Seat
       new = seat Idle announcement.Empty
 
-      fit : Fits s p (seat (C7 v) announcement.Empty)
-      fit = stay s g p h (seat (C7 v) announcement.Empty) was
+      fit : Fits s p (seat (Closing v C7) announcement.Empty)
+      fit = stay s g p h (seat (Closing v C7) announcement.Empty) was
 
       in_slots : v.slot < length s.slots
       in_slots = holds_in_range s v stands
 
-      was_kept : (k : ℕ) → KeptWith (fill s v.slot slot.Empty) p None k → (k ≡ v.slot → ⊥) × KeptWith s p None k
+      was_kept : (k : ℕ) → KeptWith (fill s v.slot None) p None k → (k ≡ v.slot → ⊥) × KeptWith s p None k
       was_kept k a =
           let ne : k ≡ v.slot → ⊥ = λ (e : k ≡ v.slot). false_true
-          (sym (ap filled (ap (slot_at (fill s v.slot slot.Empty)) e ∙ slot_same s v.slot slot.Empty in_slots)) ∙ a.0) in
-          (ne, (subst (λ x. filled x ≡ true) (slot_other s v.slot slot.Empty in_slots k ne) a.0, a.1, a.2))
+          (sym (ap filled (ap (slot_at (fill s v.slot None)) e ∙ slot_same s v.slot None in_slots)) ∙ a.0) in
+          (ne, (subst (λ x. filled x ≡ true) (slot_other s v.slot None in_slots k ne) a.0, a.1, a.2))

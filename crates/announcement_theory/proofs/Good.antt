@@ -1,5 +1,6 @@
 -- What always holds, by name, and when it still holds after program p took another seat.
 use Rattle.std.proofs.Common.{◌≡◌, ℕ, ◌+◌, ◌*◌, ◌<◌, ◌≤◌, true, false, length, Some, None, Option, refl, ap, ◌∙◌, subst, inl, inr, arith, length-set}
+use Rattle.std.proofs.lemmas.Option.{same_Some}
 use Rattle.announcement_theory.specs.declared.mark.Mark.{Mark}
 use Rattle.announcement_theory.specs.declared.announcement.Announcement.{Announcement}
 use Rattle.announcement_theory.specs.declared.announcement.Announcement.TheVariants as announcement
@@ -11,7 +12,7 @@ use Rattle.announcement_theory.specs.Next.{put}
 use Rattle.announcement_theory.specs.Views.{manner, fits, about, spare, Mentions, since, Opener, calm, ready, seeking, found, opener, settled, steady, Offerer, aside, seeks, owns, offerer, owned, over_in, Closer, stays, checks, past, pends, sweeps, closer, ranged}
 use Rattle.announcement_theory.specs.Shares.{accounted}
 use Rattle.announcement_theory.specs.Invariant.{Holds, Kept, waits, Sized, Reached, Good}
-use Rattle.announcement_theory.proofs.Basics.{false_true, clash, some_same, none_some, owner_of, at_same, at_other, at_each, at_two}
+use Rattle.announcement_theory.proofs.Basics.{false_true, clash, none_some, owner_of, at_same, at_other, at_each, at_two}
 use Rattle.announcement_theory.proofs.Roles.{closing, closing_empty, offering_plain, ready_not_closing}
 
 -- a program other than p
@@ -173,7 +174,7 @@ pub record Fits (s : State) (p : ℕ) (x : Seat) : Type 0 where
 
 each_at : (Q : Mark → Type 0) (o : Option Mark) (v : Mark) → Each Q o → o ≡ Some v → Q v
 each_at Q None v h e = none_some v e
-each_at Q (Some w) v h e = subst Q (some_same w v e) h
+each_at Q (Some w) v h e = subst Q (same_Some w v e) h
 
 pub known : (s : State) (p : ℕ) (x : Seat) → Knows s p x → (v : Mark) → Mentions x v → Sound s p (since x.position) v
 known s p x k v (inl e) = each_at (Sound s p (since x.position)) (about x.position) v k.0 e
@@ -216,8 +217,8 @@ module _ (s : State) (p : ℕ) (x : Seat) (rest : Rest s p) (new : Fits s p x) w
 
   limited_at : (o : Offerer) (over : Mark) → Offers s p o → over_in o ≡ Some over → over.serial < s.last
   limited_at aside over h e = none_some over e
-  limited_at (seeks w i) over h e = subst (λ k. k.serial < s.last) (some_same w over e) h
-  limited_at (owns r w i f) over h e = subst (λ k. k.serial < s.last) (some_same w over e) h.limited
+  limited_at (seeks w i) over h e = subst (λ k. k.serial < s.last) (same_Some w over e) h
+  limited_at (owns r w i f) over h e = subst (λ k. k.serial < s.last) (same_Some w over e) h.limited
 
   -- an owned slot of p, by its number
   owned_at : (i : ℕ) → owned at ≡ Some i → (r : ℕ) × (over : Mark) × (f : ℕ) × OwnsAt s p r over i f

@@ -10,17 +10,21 @@ use Rattle.announcement_theory.specs.declared.announcement.Announcement.TheVaria
 use Rattle.announcement_theory.specs.declared.position.Round.{Round}
 use Rattle.announcement_theory.specs.declared.position.Round.TheVariants.{First, Second}
 use Rattle.announcement_theory.specs.declared.position.Position.{Position}
-use Rattle.announcement_theory.specs.declared.position.Position.TheVariants.{Idle, O1, O2, O3, O4, O5, O6, Open, F1, F2, F3, Offered, C1, C2, C3, C4, C5, C6, C7}
+use Rattle.announcement_theory.specs.declared.position.Position.TheVariants.{Idle, Opening, Open, Offering, Offered, Closing}
+use Rattle.announcement_theory.specs.declared.position.OpenLabel.TheVariants.{O4, O5, O6}
+use Rattle.announcement_theory.specs.declared.position.OfferLabel.TheVariants.{F1, F2}
+use Rattle.announcement_theory.specs.declared.position.CloseLabel.TheVariants.{C1, C4, C6}
 use Rattle.announcement_theory.specs.declared.seat.Seat.{Seat}
 use Rattle.announcement_theory.specs.State.{State, mark, unseated, slot_at, seat_at, position_at, announced_at}
 use Rattle.announcement_theory.specs.Tests.{version_in, serial_in, root_in}
 use Rattle.announcement_theory.specs.Views.{holding, manner, fits, Mentions, since, closer, ranged}
 use Rattle.announcement_theory.specs.Invariant.{Holds, Kept, waits, Good}
-use Rattle.announcement_theory.proofs.Basics.{false_true, some_same, none_some, mark_same, holds_serial, holding_plain, beyond}
+use Rattle.announcement_theory.proofs.Basics.{false_true, none_some, mark_same, holds_serial, holding_plain, beyond}
 use Rattle.announcement_theory.proofs.Roles.{closed}
 use Rattle.announcement_theory.proofs.Waiting.{waits_how, mentioned_kept, current_kept}
 use Rattle.announcement_theory.proofs.Fillings.{says_mentions}
 use Rattle.std.proofs.lemmas.List.{length-map}
+use Rattle.std.proofs.lemmas.Option.{same_Some}
 use Rattle.keeper.specs.declared.version.Version.{Version}
 use Rattle.keeper.specs.declared.stage.Stage.TheVariants as stage
 use Rattle.keeper.specs.Stages.{has, engaged, named, uses}
@@ -43,77 +47,34 @@ pub record Plainly (a : Announcement) (n : ℕ) : Type 0 where
 
 bound_plain : (a : Announcement) (n : ℕ) → bound a ≡ Some n → Plainly a n
 bound_plain announcement.Empty n e = none_some n e
-bound_plain (announcement.Plain v) n e = record { version = v; says = refl; serial = some_same v.serial n e }
+bound_plain (announcement.Plain v) n e = record { version = v; says = refl; serial = same_Some v.serial n e }
 bound_plain (announcement.Help v) n e = none_some n e
 
 held_plain : (a : Announcement) (v : Mark) (n : ℕ) → fits (holding v) a ≡ true → ◌≡◌ {A = Option ℕ} (Some v.serial) (Some n) → Plainly a n
-held_plain a v n l e = record { version = v; says = holding_plain v a l; serial = some_same v.serial n e }
+held_plain a v n l e = record { version = v; says = holding_plain v a l; serial = same_Some v.serial n e }
 
 pub has_plain : (at : Position) (a : Announcement) (n : ℕ) → fits (manner at) a ≡ true → has (stage_from a at) ≡ Some n → Plainly a n
-has_plain Idle a n l e = none_some n e
-has_plain (O1 since u) a n l e = bound_plain a n e
-has_plain (O2 since u) a n l e = bound_plain a n e
-has_plain (O3 since u) a n l e = bound_plain a n e
-has_plain (O4 since u round) a n l e = bound_plain a n e
-has_plain (O5 since u w round) a n l e = bound_plain a n e
-has_plain (O6 since u round) a n l e = bound_plain a n e
+has_plain (Opening since u at) a n l e = bound_plain a n e
 has_plain (Open v) a n l e = held_plain a v n l e
-has_plain (F1 r v i) a n l e = held_plain a v n l e
-has_plain (F2 r v i x) a n l e = held_plain a v n l e
-has_plain (F3 r v i) a n l e = held_plain a v n l e
+has_plain (Offering r v i at) a n l e = held_plain a v n l e
 has_plain (Offered v) a n l e = held_plain a v n l e
-has_plain (C1 v) a n l e = none_some n e
-has_plain (C2 v) a n l e = none_some n e
-has_plain (C3 v) a n l e = none_some n e
-has_plain (C4 v x) a n l e = none_some n e
-has_plain (C5 v) a n l e = none_some n e
-has_plain (C6 v x) a n l e = none_some n e
-has_plain (C7 v) a n l e = none_some n e
+has_plain _ a n l e = none_some n e
 
 -- a program that announces v without help has it, or is closing it
 plain_engaged : (at : Position) (v : Mark) → fits (manner at) (announcement.Plain v) ≡ true → engaged (stage_from (announcement.Plain v) at) ≡ Some
     v.serial
-plain_engaged Idle v e = false_true e
-plain_engaged (O1 since u) v e = refl
-plain_engaged (O2 since u) v e = refl
-plain_engaged (O3 since u) v e = refl
-plain_engaged (O4 since u round) v e = refl
-plain_engaged (O5 since u w round) v e = refl
-plain_engaged (O6 since u round) v e = refl
+plain_engaged (Opening since u at) v e = refl
 plain_engaged (Open u) v e = ap (λ (y : Mark). Some y.serial) (mark_same u v e)
-plain_engaged (F1 r u i) v e = ap (λ (y : Mark). Some y.serial) (mark_same u v e)
-plain_engaged (F2 r u i x) v e = ap (λ (y : Mark). Some y.serial) (mark_same u v e)
-plain_engaged (F3 r u i) v e = ap (λ (y : Mark). Some y.serial) (mark_same u v e)
+plain_engaged (Offering r u i at) v e = ap (λ (y : Mark). Some y.serial) (mark_same u v e)
 plain_engaged (Offered u) v e = ap (λ (y : Mark). Some y.serial) (mark_same u v e)
-plain_engaged (C1 u) v e = ap (λ (y : Mark). Some y.serial) (mark_same u v e)
-plain_engaged (C2 u) v e = false_true e
-plain_engaged (C3 u) v e = false_true e
-plain_engaged (C4 u x) v e = false_true e
-plain_engaged (C5 u) v e = false_true e
-plain_engaged (C6 u x) v e = false_true e
-plain_engaged (C7 u) v e = false_true e
+plain_engaged (Closing u C1) v e = ap (λ (y : Mark). Some y.serial) (mark_same u v e)
+plain_engaged _ v e = false_true e
 
 closing_engaged : (all : ℕ) (at : Position) (a : Announcement) (v : Mark) → closed (closer all at) ≡ Some v → engaged (stage_from a at) ≡ Some
     v.serial
-closing_engaged all Idle a v e = none_some v e
-closing_engaged all (O1 since u) a v e = none_some v e
-closing_engaged all (O2 since u) a v e = none_some v e
-closing_engaged all (O3 since u) a v e = none_some v e
-closing_engaged all (O4 since u round) a v e = none_some v e
-closing_engaged all (O5 since u w round) a v e = none_some v e
-closing_engaged all (O6 since u round) a v e = none_some v e
-closing_engaged all (Open u) a v e = none_some v e
-closing_engaged all (F1 r u i) a v e = none_some v e
-closing_engaged all (F2 r u i x) a v e = none_some v e
-closing_engaged all (F3 r u i) a v e = none_some v e
-closing_engaged all (Offered u) a v e = none_some v e
-closing_engaged all (C1 u) a v e = none_some v e
-closing_engaged all (C2 u) a v e = ap (λ (y : Mark). Some y.serial) (some_same u v e)
-closing_engaged all (C3 u) a v e = ap (λ (y : Mark). Some y.serial) (some_same u v e)
-closing_engaged all (C4 u x) a v e = ap (λ (y : Mark). Some y.serial) (some_same u v e)
-closing_engaged all (C5 u) a v e = ap (λ (y : Mark). Some y.serial) (some_same u v e)
-closing_engaged all (C6 u x) a v e = ap (λ (y : Mark). Some y.serial) (some_same u v e)
-closing_engaged all (C7 u) a v e = ap (λ (y : Mark). Some y.serial) (some_same u v e)
+closing_engaged all (Closing u C1) a v e = none_some v e
+closing_engaged all (Closing u _) a v e = ap (λ (y : Mark). Some y.serial) (same_Some u v e)
+closing_engaged all _ a v e = none_some v e
 
 in_round_some : (r : Round) (a b : ℕ) → 0 < a → 0 < b → 0 < in_round r a b
 in_round_some First a b h k = h
@@ -122,24 +83,16 @@ in_round_some Second a b h k = k
 -- steps are left exactly where the stage says so
 pub paced_at : (all : ℕ) (at : Position) (a : Announcement) → ranged all at ≡ true → Paced (stage_from a at) (left_at all at)
 paced_at all Idle a l = refl
-paced_at all (O1 since u) a l = omega arith
-paced_at all (O2 since u) a l = omega arith
-paced_at all (O3 since u) a l = omega arith
-paced_at all (O4 since u round) a l = in_round_some round 7 4 (omega arith) (omega arith)
-paced_at all (O5 since u w round) a l = in_round_some round 6 3 (omega arith) (omega arith)
-paced_at all (O6 since u round) a l = in_round_some round 5 2 (omega arith) (omega arith)
+paced_at all (Opening since u (O4 round)) a l = in_round_some round 7 4 (omega arith) (omega arith)
+paced_at all (Opening since u (O5 w round)) a l = in_round_some round 6 3 (omega arith) (omega arith)
+paced_at all (Opening since u (O6 round)) a l = in_round_some round 5 2 (omega arith) (omega arith)
 paced_at all (Open v) a l = refl
-paced_at all (F1 r v i) a l = omega (arith, leb-true i (3 * all) l)
-paced_at all (F2 r v i x) a l = omega (arith, ltb-true x all (and_parts (leb i (3 * all)) (ltb x all) l).1)
-paced_at all (F3 r v i) a l = omega arith
+paced_at all (Offering r v i F1) a l = omega (arith, leb-true i (3 * all) l)
+paced_at all (Offering r v i (F2 x)) a l = omega (arith, ltb-true x all (and_parts (leb i (3 * all)) (ltb x all) l).1)
 paced_at all (Offered v) a l = refl
-paced_at all (C1 v) a l = omega arith
-paced_at all (C2 v) a l = omega arith
-paced_at all (C3 v) a l = omega arith
-paced_at all (C4 v x) a l = omega (arith, ltb-true x all l)
-paced_at all (C5 v) a l = omega arith
-paced_at all (C6 v x) a l = omega (arith, ltb-true x all l)
-paced_at all (C7 v) a l = omega arith
+paced_at all (Closing v (C4 x)) a l = omega (arith, ltb-true x all l)
+paced_at all (Closing v (C6 x)) a l = omega (arith, ltb-true x all l)
+paced_at all _ a l = omega arith
 
 module _ (s : State) (g : Good s) where
   -- a version that is kept in slot j

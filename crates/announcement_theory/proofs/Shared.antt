@@ -4,7 +4,9 @@ use Rattle.std.proofs.lemmas.Bool.Decides.{nat_tests}
 use Rattle.announcement_theory.specs.declared.mark.Mark.{Mark}
 use Rattle.announcement_theory.specs.declared.announcement.Announcement.TheVariants as announcement
 use Rattle.announcement_theory.specs.declared.position.Position.{Position}
-use Rattle.announcement_theory.specs.declared.position.Position.TheVariants.{Idle, O1, O2, O3, O4, O5, O6, Open, F1, F2, F3, Offered, C1, C2, C3, C4, C5, C6, C7}
+use Rattle.announcement_theory.specs.declared.position.Position.TheVariants.{Opening, Closing}
+use Rattle.announcement_theory.specs.declared.position.OpenLabel.TheVariants.{O2, O3, O4, O5, O6}
+use Rattle.announcement_theory.specs.declared.position.CloseLabel.TheVariants.{C1}
 use Rattle.announcement_theory.specs.Tests.{is_mark}
 use Rattle.announcement_theory.specs.Views.{asking, manner, since, aside, offerer}
 use Rattle.announcement_theory.specs.Shares.{Past, hopes, lost, below, used, share_of, past_of}
@@ -60,22 +62,10 @@ waits_more false p false l e = e
 -- an asking program is not offering, and accounts as one that opens
 pub asking_aside : (all : ℕ) (at : Position) (u : Mark) → manner at ≡ asking u → (offerer all at ≡ aside) ×
     ((past_of at ≡ hopes u) ⊎ (past_of at ≡ lost))
-asking_aside all Idle u e = let z : ◌≡◌ {A = ℕ} 0 1 = cc in absurd (omega arith)
-asking_aside all (O1 since v) u e = let z : ◌≡◌ {A = ℕ} 0 1 = cc in absurd (omega arith)
-asking_aside all (O2 since v) u e = (refl, inl (let f : v ≡ u = cc in ap hopes f))
-asking_aside all (O3 since v) u e = (refl, inl (let f : v ≡ u = cc in ap hopes f))
-asking_aside all (O4 since v round) u e = (refl, inr refl)
-asking_aside all (O5 since v w round) u e = (refl, inr refl)
-asking_aside all (O6 since v round) u e = (refl, inl (let f : v ≡ u = cc in ap hopes f))
-asking_aside all (Open v) u e = let z : ◌≡◌ {A = ℕ} 0 1 = cc in absurd (omega arith)
-asking_aside all (F1 r over i) u e = let z : ◌≡◌ {A = ℕ} 0 1 = cc in absurd (omega arith)
-asking_aside all (F2 r over i x) u e = let z : ◌≡◌ {A = ℕ} 0 1 = cc in absurd (omega arith)
-asking_aside all (F3 r over i) u e = let z : ◌≡◌ {A = ℕ} 0 1 = cc in absurd (omega arith)
-asking_aside all (Offered v) u e = let z : ◌≡◌ {A = ℕ} 0 1 = cc in absurd (omega arith)
-asking_aside all (C1 v) u e = let z : ◌≡◌ {A = ℕ} 0 1 = cc in absurd (omega arith)
-asking_aside all (C2 v) u e = let z : ◌≡◌ {A = ℕ} 0 1 = cc in absurd (omega arith)
-asking_aside all (C3 v) u e = let z : ◌≡◌ {A = ℕ} 0 1 = cc in absurd (omega arith)
-asking_aside all (C4 v x) u e = let z : ◌≡◌ {A = ℕ} 0 1 = cc in absurd (omega arith)
-asking_aside all (C5 v) u e = let z : ◌≡◌ {A = ℕ} 0 1 = cc in absurd (omega arith)
-asking_aside all (C6 v x) u e = let z : ◌≡◌ {A = ℕ} 0 1 = cc in absurd (omega arith)
-asking_aside all (C7 v) u e = let z : ◌≡◌ {A = ℕ} 0 1 = cc in absurd (omega arith)
+asking_aside all (Opening since v O2) u e = (refl, inl (let f : v ≡ u = cc in ap hopes f))
+asking_aside all (Opening since v O3) u e = (refl, inl (let f : v ≡ u = cc in ap hopes f))
+asking_aside all (Opening since v (O4 round)) u e = (refl, inr refl)
+asking_aside all (Opening since v (O5 w round)) u e = (refl, inr refl)
+asking_aside all (Opening since v (O6 round)) u e = (refl, inl (let f : v ≡ u = cc in ap hopes f))
+asking_aside all (Closing v C1) u e = let z : ◌≡◌ {A = ℕ} 0 1 = cc in absurd (omega arith)
+asking_aside all _ u e = let z : ◌≡◌ {A = ℕ} 0 1 = cc in absurd (omega arith)

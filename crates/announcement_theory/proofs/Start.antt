@@ -1,10 +1,10 @@
 -- A new keeper is good.
-use Rattle.std.proofs.Common.{◌≡◌, ℕ, zero, suc, ◌+◌, ◌*◌, ◌<◌, ◌≤◌, true, false, ◌&&◌, leb, replicate, Some, sym, refl, ap, ◌∙◌, subst, inl, inr, ⊎_elim, arith}
+use Rattle.std.proofs.Common.{◌≡◌, ℕ, zero, suc, ◌+◌, ◌*◌, ◌<◌, ◌≤◌, true, false, ◌&&◌, leb, replicate, Some, None, Option, sym, refl, ap, ◌∙◌, subst, inl, inr, ⊎_elim, arith}
 use Rattle.keeper.specs.Refusals.{limits}
 use Rattle.std.proofs.lemmas.Bool.{and_parts, leb-true, cases_lt}
 use Rattle.std.proofs.lemmas.List.{get_or_past, get_or-replicate, length-replicate}
 use Rattle.announcement_theory.specs.declared.mark.Mark.{Mark}
-use Rattle.announcement_theory.specs.declared.slot.Slot.TheVariants as slot
+use Rattle.announcement_theory.specs.declared.slot.Stored.{Stored}
 use Rattle.announcement_theory.specs.declared.announcement.Announcement.TheVariants as announcement
 use Rattle.announcement_theory.specs.declared.seat.Seat.{Seat}
 use Rattle.announcement_theory.specs.State.{State, unseated, slot_at, seat_at, position_at, fresh}
@@ -29,10 +29,10 @@ module _ (p l : ℕ) (few : (1 ≤ p) × (p ≤ 8)) (most : l ≤ 4000000000) wh
       (λ (h : p ≤ q). get_or_past (replicate p unseated) q unseated (omega (arith, length-replicate p unseated)))
       (cases_lt q p)
 
-  empty_slot : (j : ℕ) → slot_at s (suc j) ≡ slot.Empty
+  empty_slot : (j : ℕ) → slot_at s (suc j) ≡ None
   empty_slot j = ⊎_elim
-      (λ (h : j < 3 * p). get_or-replicate (3 * p) j slot.Empty slot.Empty h)
-      (λ (h : 3 * p ≤ j). get_or_past (replicate (3 * p) slot.Empty) j slot.Empty (omega (arith, length-replicate (3 * p) slot.Empty)))
+      (λ (h : j < 3 * p). get_or-replicate (3 * p) j None None h)
+      (λ (h : 3 * p ≤ j). get_or_past (replicate (3 * p) None) j None (omega (arith, length-replicate {A = Option Stored} (3 * p) None)))
       (cases_lt j (3 * p))
 
   only_first : (j : ℕ) → filled (slot_at s j) ≡ true → j ≡ 0
@@ -45,7 +45,7 @@ module _ (p l : ℕ) (few : (1 ≤ p) × (p ≤ 8)) (most : l ≤ 4000000000) wh
 
   pub fresh_good : Good (fresh p l)
   fresh_good = record {
-    sized = (few.0, few.1, omega (arith, length-replicate (3 * p) slot.Empty), length-replicate p unseated, most);
+    sized = (few.0, few.1, omega (arith, length-replicate {A = Option Stored} (3 * p) None), length-replicate p unseated, most);
     reached = omega arith;
     ranged = each (λ x. ranged p x.position ≡ true) refl;
     local = each (λ x. fits (manner x.position) x.announced ≡ true) refl;

@@ -1,20 +1,23 @@
 -- Every beginning and every step keeps what always holds.
-use Rattle.std.proofs.Common.{◌≡◌, ℕ, ◌+◌, ◌*◌, ◌<◌, Bool, true, false, cond, eqb, ltb, leb, sym, refl, ap, ◌∙◌, subst, arith}
+use Rattle.std.proofs.Common.{◌≡◌, ℕ, ◌+◌, ◌*◌, ◌<◌, Bool, true, false, cond, eqb, ltb, leb, Some, None, Option, sym, refl, ap, ◌∙◌, subst, arith}
 use Rattle.std.proofs.lemmas.Bool.{and_parts, ltb-true, ltb-false}
 use Rattle.announcement_theory.specs.declared.mark.Mark.{Mark}
+use Rattle.announcement_theory.specs.declared.slot.Status.{Status}
 use Rattle.announcement_theory.specs.declared.slot.Status.TheVariants.{Usable, Pending, Frozen}
-use Rattle.announcement_theory.specs.declared.slot.Slot.{Slot}
-use Rattle.announcement_theory.specs.declared.slot.Slot.TheVariants as slot
+use Rattle.announcement_theory.specs.declared.slot.Stored.{Stored}
 use Rattle.announcement_theory.specs.declared.announcement.Announcement.{Announcement}
 use Rattle.announcement_theory.specs.declared.announcement.Announcement.TheVariants as announcement
 use Rattle.announcement_theory.specs.declared.position.Round.{Round}
 use Rattle.announcement_theory.specs.declared.position.Round.TheVariants.{First, Second}
 use Rattle.announcement_theory.specs.declared.position.Position.{Position}
-use Rattle.announcement_theory.specs.declared.position.Position.TheVariants.{Idle, O1, O2, O3, O4, O5, O6, Open, F1, F2, F3, Offered, C1, C2, C3, C4, C5, C6, C7}
+use Rattle.announcement_theory.specs.declared.position.Position.TheVariants.{Idle, Opening, Open, Offering, Offered, Closing}
+use Rattle.announcement_theory.specs.declared.position.OpenLabel.TheVariants.{O1, O2, O3, O4, O5, O6}
+use Rattle.announcement_theory.specs.declared.position.OfferLabel.TheVariants.{F1, F2, F3}
+use Rattle.announcement_theory.specs.declared.position.CloseLabel.TheVariants.{C1, C2, C3, C4, C5, C6, C7}
 use Rattle.announcement_theory.specs.declared.seat.Seat.{Seat}
-use Rattle.announcement_theory.specs.State.{State, mark, seat, slot_at, seat_at, position_at, announced_at}
+use Rattle.announcement_theory.specs.State.{State, mark, seat, stored, slot_at, seat_at, position_at, announced_at}
 use Rattle.announcement_theory.specs.Tests.{is_mark, asks, bears, flagged, version_in, filled, serial_in, holds, usable, pending, frozen, restated}
-use Rattle.announcement_theory.specs.Next.{put, fill, advance, go_to, announce, goes, stepped, opens_on, stales, step_at, step, opens, publishes, closes, searches, looks, hands, again, next_or, version_had}
+use Rattle.announcement_theory.specs.Next.{put, fill, advance, go_to, announce, goes, stepped, opens_on, stales, step_at, step, opens, publishes, closes, searches, looks, looks_on, hands, hands_on, again, next_or, version_had}
 use Rattle.announcement_theory.specs.Views.{silent, holding, manner, fits, offerer, closer, ranged}
 use Rattle.announcement_theory.specs.Invariant.{Holds, Good}
 use Rattle.announcement_theory.proofs.Basics.{false_true, clash, mark_same, mark_flip, holding_plain, silent_empty, asks_help, asking_bound, at_same, at_other}
@@ -63,127 +66,133 @@ module _ (s : State) (g : Good s) (p : ℕ) (h : p < s.programs) where
   pub opens_good : position_at s p ≡ Idle → Good (opens s p)
   opens_good e =
       let a = empty_at Idle e refl in
-      told s (O1 V.serial V) announcement.Empty a (open_good s g p h (seat_is s p Idle announcement.Empty e a))
+      told s (Opening V.serial V O1) announcement.Empty a (open_good s g p h (seat_is s p Idle announcement.Empty e a))
 
   pub publishes_good : (r : ℕ) (v : Mark) → position_at s p ≡ Open v → (V.serial ≡ s.last → ⊥) → Good (publishes s p r)
   publishes_good r v e l =
       let a = plain_at (Open v) e v refl in
-      subst (λ k. Good (go_to s p (F1 r (version_had k) 0))) (sym e)
-      (told s (F1 r v 0) (announcement.Plain v) a (publish_good s g p h r v (seat_is s p (Open v) (announcement.Plain v) e a) l))
+      subst (λ k. Good (go_to s p (Offering r (version_had k) 0 F1))) (sym e)
+      (told s (Offering r v 0 F1) (announcement.Plain v) a (publish_good s g p h r v (seat_is s p (Open v) (announcement.Plain v) e a) l))
 
   pub closes_open_good : (v : Mark) → position_at s p ≡ Open v → Good (closes s p)
   closes_open_good v e =
       let a = plain_at (Open v) e v refl in
-      subst (λ k. Good (go_to s p (C1 (version_had k)))) (sym e)
-      (told s (C1 v) (announcement.Plain v) a (close_open_good s g p h v (seat_is s p (Open v) (announcement.Plain v) e a)))
+      subst (λ k. Good (go_to s p (Closing (version_had k) C1))) (sym e)
+      (told s (Closing v C1) (announcement.Plain v) a (close_open_good s g p h v (seat_is s p (Open v) (announcement.Plain v) e a)))
 
   pub closes_offered_good : (v : Mark) → position_at s p ≡ Offered v → Good (closes s p)
   closes_offered_good v e =
       let a = plain_at (Offered v) e v refl in
-      subst (λ k. Good (go_to s p (C1 (version_had k)))) (sym e)
-      (told s (C1 v) (announcement.Plain v) a (close_offered_good s g p h v (seat_is s p (Offered v) (announcement.Plain v) e a)))
+      subst (λ k. Good (go_to s p (Closing (version_had k) C1))) (sym e)
+      (told s (Closing v C1) (announcement.Plain v) a (close_offered_good s g p h v (seat_is s p (Offered v) (announcement.Plain v) e a)))
 
   -- labels of an open
-  o2_step : (n : ℕ) (u : Mark) → position_at s p ≡ O2 n u → (b : Bool) → is_mark V u ≡ b → Good
-      (cond b (goes s p (O3 n u)) (goes s p (O4 n u First))).after
-  o2_step n u e true c = o2_same_good s g p h n u mine (seat_is s p (O2 n u) mine e refl) c
-  o2_step n u e false c = o2_moved_good s g p h n u mine (seat_is s p (O2 n u) mine e refl) c
+  o2_step : (n : ℕ) (u : Mark) → position_at s p ≡ Opening n u O2 → (b : Bool) → is_mark V u ≡ b → Good
+      (cond b (goes s p (Opening n u O3)) (goes s p (Opening n u (O4 First)))).after
+  o2_step n u e true c = o2_same_good s g p h n u mine (seat_is s p (Opening n u O2) mine e refl) c
+  o2_step n u e false c = o2_moved_good s g p h n u mine (seat_is s p (Opening n u O2) mine e refl) c
 
-  o6_again_step : (n : ℕ) (u : Mark) (r : Round) → position_at s p ≡ O6 n u r → is_mark V u ≡ false → Good (again s p n u r).after
-  o6_again_step n u First e c = o6_again_good s g p h n u mine (seat_is s p (O6 n u First) mine e refl) c
+  o6_again_step : (n : ℕ) (u : Mark) (r : Round) → position_at s p ≡ Opening n u (O6 r) → is_mark V u ≡ false → Good (again s p n u r).after
+  o6_again_step n u First e c = o6_again_good s g p h n u mine (seat_is s p (Opening n u (O6 First)) mine e refl) c
   o6_again_step n u Second e c =
-      let b = helped_twice s g p h n u mine (seat_is s p (O6 n u Second) mine e refl) c in
+      let b = helped_twice s g p h n u mine (seat_is s p (Opening n u (O6 Second)) mine e refl) c in
       ended (announcement.Plain b.0) b.1 (o6_bound_good s g p h n u Second b.0
-      (seat_is s p (O6 n u Second) (announcement.Plain b.0) e b.1))
+      (seat_is s p (Opening n u (O6 Second)) (announcement.Plain b.0) e b.1))
 
   -- labels of an offer
-  f1_step : (r : ℕ) (over : Mark) (i : ℕ) → position_at s p ≡ F1 r over i → (x : Slot) → slot_at s i ≡ x → Good (searches s p r over i x).after
-  f1_step r over i e slot.Empty f =
-      let a = plain_at (F1 r over i) e over refl in
-      told (fill s i (slot.Filled (V.serial + 1) r Usable)) (F2 r over i 0) (announcement.Plain over) a
-      (f1_put_good s g p h r over i (seat_is s p (F1 r over i) (announcement.Plain over) e a) f)
-  f1_step r over i e (slot.Filled n m st) f = go (ltb i (3 * s.programs)) refl
+  f1_step : (r : ℕ) (over : Mark) (i : ℕ) → position_at s p ≡ Offering r over i F1 → (x : Option Stored) → slot_at s i ≡ x → Good (searches s p r over i x).after
+  f1_step r over i e None f =
+      let a = plain_at (Offering r over i F1) e over refl in
+      told (fill s i (Some (stored (V.serial + 1) r Usable))) (Offering r over i (F2 0)) (announcement.Plain over) a
+      (f1_put_good s g p h r over i (seat_is s p (Offering r over i F1) (announcement.Plain over) e a) f)
+  f1_step r over i e (Some y) f = go (ltb i (3 * s.programs)) refl
     where
       a : mine ≡ announcement.Plain over
-      a = plain_at (F1 r over i) e over refl
+      a = plain_at (Offering r over i F1) e over refl
 
-      is : seat_at s p ≡ seat (F1 r over i) (announcement.Plain over)
-      is = seat_is s p (F1 r over i) (announcement.Plain over) e a
+      is : seat_at s p ≡ seat (Offering r over i F1) (announcement.Plain over)
+      is = seat_is s p (Offering r over i F1) (announcement.Plain over) e a
 
       go : (b : Bool) → ltb i (3 * s.programs) ≡ b
-          → Good (cond b (goes s p (F1 r over (i + 1))) (stepped (go_to s p (Offered over)) Stale)).after
-      go true l = told s (F1 r over (i + 1)) (announcement.Plain over) a
+          → Good (cond b (goes s p (Offering r over (i + 1) F1)) (stepped (go_to s p (Offered over)) Stale)).after
+      go true l = told s (Offering r over (i + 1) F1) (announcement.Plain over) a
           (f1_next_good s g p h r over i is (ltb-true i (3 * s.programs) l)
           (λ c. omega (arith, gain s g i (ap filled f), g.searched p over i (ap (offerer s.programs) e) c)))
       go false l = told s (Offered over) (announcement.Plain over) a (f1_end_good s g p h r over i is)
 
-  f2_next_step : (r : ℕ) (over : Mark) (i x : ℕ) → seat_at s p ≡ seat (F2 r over i x) (announcement.Plain over) → flagged (announced_at s x) ≡ false
-      → (b : Bool) → ltb (x + 1) s.programs ≡ b → Good (put s p (seat (cond b (F2 r over i (x + 1)) (F3 r over i)) (announcement.Plain over)))
+  f2_next_step : (r : ℕ) (over : Mark) (i x : ℕ) → seat_at s p ≡ seat (Offering r over i (F2 x)) (announcement.Plain over) → flagged (announced_at s x) ≡ false
+      → (b : Bool) → ltb (x + 1) s.programs ≡ b → Good (put s p (seat (Offering r over i (cond b (F2 (x + 1)) F3)) (announcement.Plain over)))
   f2_next_step r over i x e a true l = f2_next_good s g p h r over i x e a (ltb-true (x + 1) s.programs l)
   f2_next_step r over i x e a false l = f2_last_good s g p h r over i x e a (ltb-false (x + 1) s.programs l)
 
-  c4_next_step : (v : Mark) (x : ℕ) → seat_at s p ≡ seat (C4 v x) announcement.Empty → asks v (announced_at s x) ≡ false
-      → (b : Bool) → ltb (x + 1) s.programs ≡ b → Good (put s p (seat (cond b (C4 v (x + 1)) (C5 v)) announcement.Empty))
+  c4_next_step : (v : Mark) (x : ℕ) → seat_at s p ≡ seat (Closing v (C4 x)) announcement.Empty → asks v (announced_at s x) ≡ false
+      → (b : Bool) → ltb (x + 1) s.programs ≡ b → Good (put s p (seat (Closing v (cond b (C4 (x + 1)) C5)) announcement.Empty))
   c4_next_step v x e a true l = c4_next_good s g p h v x e a (ltb-true (x + 1) s.programs l)
   c4_next_step v x e a false l = c4_last_good s g p h v x e a (ltb-false (x + 1) s.programs l)
 
-  c6_next_step : (v : Mark) (x : ℕ) → seat_at s p ≡ seat (C6 v x) announcement.Empty → bears v (announced_at s x) ≡ false
-      → (b : Bool) → ltb (x + 1) s.programs ≡ b → Good (put s p (seat (cond b (C6 v (x + 1)) (C7 v)) announcement.Empty))
+  c6_next_step : (v : Mark) (x : ℕ) → seat_at s p ≡ seat (Closing v (C6 x)) announcement.Empty → bears v (announced_at s x) ≡ false
+      → (b : Bool) → ltb (x + 1) s.programs ≡ b → Good (put s p (seat (Closing v (cond b (C6 (x + 1)) C7)) announcement.Empty))
   c6_next_step v x e a true l = c6_next_good s g p h v x e a (ltb-true (x + 1) s.programs l)
   c6_next_step v x e a false l = c6_last_good s g p h v x e a (ltb-false (x + 1) s.programs l)
 
   -- C3 and C7 at a slot
-  c3_step : (v : Mark) → position_at s p ≡ C3 v → (x : Slot) → slot_at s v.slot ≡ x → Good (looks s p v x).after
+  c3_step : (v : Mark) → position_at s p ≡ Closing v C3 → (x : Option Stored) → slot_at s v.slot ≡ x → Good (looks s p v x).after
   c3_step v e x f = go x f
     where
       a : mine ≡ announcement.Empty
-      a = empty_at (C3 v) e refl
+      a = empty_at (Closing v C3) e refl
 
-      is : seat_at s p ≡ seat (C3 v) announcement.Empty
-      is = seat_is s p (C3 v) announcement.Empty e a
+      is : seat_at s p ≡ seat (Closing v C3) announcement.Empty
+      is = seat_is s p (Closing v C3) announcement.Empty e a
 
       end : (Holds s v → pending (slot_at s v.slot) ≡ true) → Good (go_to s p Idle)
       end gone = told s Idle announcement.Empty a (c3_end_good s g p h v is gone)
 
-      go : (x : Slot) → slot_at s v.slot ≡ x → Good (looks s p v x).after
-      go slot.Empty f = end (λ t. false_true (sym (ap (holds v) f) ∙ t))
-      go (slot.Filled n r Usable) f = test (eqb n v.serial) refl
+      go_on : (n r : ℕ) (st : Status) → slot_at s v.slot ≡ Some (stored n r st) → Good (looks_on s p v n r st).after
+      go_on n r Usable f = test (eqb n v.serial) refl
         where
           test : (b : Bool) → eqb n v.serial ≡ b → Good
-              (cond b (goes (fill s v.slot (slot.Filled n r Pending)) p (C4 v 0)) (stepped (go_to s p Idle) Nothing)).after
-          test true c = told (fill s v.slot (slot.Filled n r Pending)) (C4 v 0) announcement.Empty a
-              (subst (λ y. Good (put (fill s v.slot y) p (seat (C4 v 0) announcement.Empty))) (ap (restated Pending) f)
+              (cond b (goes (fill s v.slot (Some (stored n r Pending))) p (Closing v (C4 0))) (stepped (go_to s p Idle) Nothing)).after
+          test true c = told (fill s v.slot (Some (stored n r Pending))) (Closing v (C4 0)) announcement.Empty a
+              (subst (λ y. Good (put (fill s v.slot y) p (seat (Closing v (C4 0)) announcement.Empty))) (ap (restated Pending) f)
               (c3_pend_good s g p h v is (ap (holds v) f ∙ c) (ap usable f)))
           test false c = end (λ t. clash (eqb n v.serial) (sym (ap (holds v) f) ∙ t) c)
-      go (slot.Filled n r Pending) f = end (λ t. ap pending f)
-      go (slot.Filled n r Frozen) f = test (eqb n v.serial) refl
+      go_on n r Pending f = end (λ t. ap pending f)
+      go_on n r Frozen f = test (eqb n v.serial) refl
         where
-          test : (b : Bool) → eqb n v.serial ≡ b → Good (cond b (goes s p (C6 v 0)) (stepped (go_to s p Idle) Nothing)).after
-          test true c = told s (C6 v 0) announcement.Empty a (c3_frozen_good s g p h v is (ap frozen f))
+          test : (b : Bool) → eqb n v.serial ≡ b → Good (cond b (goes s p (Closing v (C6 0))) (stepped (go_to s p Idle) Nothing)).after
+          test true c = told s (Closing v (C6 0)) announcement.Empty a (c3_frozen_good s g p h v is (ap frozen f))
           test false c = end (λ t. clash (eqb n v.serial) (sym (ap (holds v) f) ∙ t) c)
 
-  c7_step : (v : Mark) → position_at s p ≡ C7 v → (x : Slot) → slot_at s v.slot ≡ x → Good (hands s p v x).after
+      go : (x : Option Stored) → slot_at s v.slot ≡ x → Good (looks s p v x).after
+      go None f = end (λ t. false_true (sym (ap (holds v) f) ∙ t))
+      go (Some x) f = go_on x.serial x.root x.status f
+
+  c7_step : (v : Mark) → position_at s p ≡ Closing v C7 → (x : Option Stored) → slot_at s v.slot ≡ x → Good (hands s p v x).after
   c7_step v e x f = go x f
     where
       a : mine ≡ announcement.Empty
-      a = empty_at (C7 v) e refl
+      a = empty_at (Closing v C7) e refl
 
-      is : seat_at s p ≡ seat (C7 v) announcement.Empty
-      is = seat_is s p (C7 v) announcement.Empty e a
+      is : seat_at s p ≡ seat (Closing v C7) announcement.Empty
+      is = seat_is s p (Closing v C7) announcement.Empty e a
 
       end : (Holds s v → frozen (slot_at s v.slot) ≡ false) → Good (go_to s p Idle)
       end gone = told s Idle announcement.Empty a (c7_end_good s g p h v is gone)
 
-      go : (x : Slot) → slot_at s v.slot ≡ x → Good (hands s p v x).after
-      go slot.Empty f = end (λ t. ap frozen f)
-      go (slot.Filled n r Usable) f = end (λ t. ap frozen f)
-      go (slot.Filled n r Pending) f = end (λ t. ap frozen f)
-      go (slot.Filled n r Frozen) f = test (eqb n v.serial) refl
+      go_on : (n r : ℕ) (st : Status) → slot_at s v.slot ≡ Some (stored n r st) → Good (hands_on s p v n st).after
+      go_on n r Usable f = end (λ t. ap frozen f)
+      go_on n r Pending f = end (λ t. ap frozen f)
+      go_on n r Frozen f = test (eqb n v.serial) refl
         where
           test : (b : Bool) → eqb n v.serial ≡ b → Good
-              (cond b (stepped (go_to (fill s v.slot slot.Empty) p Idle) (HandedOut v.serial)) (stepped (go_to s p Idle) Nothing)).after
-          test true c = told (fill s v.slot slot.Empty) Idle announcement.Empty a (c7_hand_good s g p h v is (ap (holds v) f ∙ c) (ap frozen f))
+              (cond b (stepped (go_to (fill s v.slot None) p Idle) (HandedOut v.serial)) (stepped (go_to s p Idle) Nothing)).after
+          test true c = told (fill s v.slot None) Idle announcement.Empty a (c7_hand_good s g p h v is (ap (holds v) f ∙ c) (ap frozen f))
           test false c = end (λ t. clash (eqb n v.serial) (sym (ap (holds v) f) ∙ t) c)
+
+      go : (x : Option Stored) → slot_at s v.slot ≡ x → Good (hands s p v x).after
+      go None f = end (λ t. ap frozen f)
+      go (Some x) f = go_on x.serial x.root x.status f
 
 -- F2 and C4 with another program's announcement made plain first: then that program is passed over
 module _ (s : State) (g : Good s) (p : ℕ) (h : p < s.programs) where
@@ -191,30 +200,30 @@ module _ (s : State) (g : Good s) (p : ℕ) (h : p < s.programs) where
   apart_from : (x : ℕ) (y : Seat) → x < s.programs → (x ≡ p → ⊥) → seat_at (put s x y) p ≡ seat_at s p
   apart_from x y l ne = at_other s x y (omega (arith, g.sized.3)) p (λ (e : p ≡ x). ne (sym e))
 
-  f2_step : (r : ℕ) (over : Mark) (i x : ℕ) → position_at s p ≡ F2 r over i x → (b c : Bool) → flagged (announced_at s x) ≡ b → is_mark
+  f2_step : (r : ℕ) (over : Mark) (i x : ℕ) → position_at s p ≡ Offering r over i (F2 x) → (b c : Bool) → flagged (announced_at s x) ≡ b → is_mark
       s.current over ≡ c
       → Good (cond b
       (cond c
-      (goes (announce s x (announcement.Plain over)) p (next_or s.programs x (F2 r over i (x + 1)) (F3 r over i)))
+      (goes (announce s x (announcement.Plain over)) p (Offering r over i (next_or s.programs x (F2 (x + 1)) F3)))
       (stales s p over i))
-      (goes s p (next_or s.programs x (F2 r over i (x + 1)) (F3 r over i)))).after
+      (goes s p (Offering r over i (next_or s.programs x (F2 (x + 1)) F3)))).after
   f2_step r over i x e = go
     where
       a : announced_at s p ≡ announcement.Plain over
-      a = plain_at s g p h (F2 r over i x) e over refl
+      a = plain_at s g p h (Offering r over i (F2 x)) e over refl
 
-      is : seat_at s p ≡ seat (F2 r over i x) (announcement.Plain over)
-      is = seat_is s p (F2 r over i x) (announcement.Plain over) e a
+      is : seat_at s p ≡ seat (Offering r over i (F2 x)) (announcement.Plain over)
+      is = seat_is s p (Offering r over i (F2 x)) (announcement.Plain over) e a
 
       below_all : x < s.programs
-      below_all = ltb-true x s.programs (and_parts (leb i (3 * s.programs)) (ltb x s.programs) (ranged_at s g p h (F2 r over i x) e)).1
+      below_all = ltb-true x s.programs (and_parts (leb i (3 * s.programs)) (ltb x s.programs) (ranged_at s g p h (Offering r over i (F2 x)) e)).1
 
       go : (b c : Bool) → flagged (announced_at s x) ≡ b → is_mark s.current over ≡ c
           → Good (cond b
           (cond c
-          (goes (announce s x (announcement.Plain over)) p (next_or s.programs x (F2 r over i (x + 1)) (F3 r over i)))
+          (goes (announce s x (announcement.Plain over)) p (Offering r over i (next_or s.programs x (F2 (x + 1)) F3)))
           (stales s p over i))
-          (goes s p (next_or s.programs x (F2 r over i (x + 1)) (F3 r over i)))).after
+          (goes s p (Offering r over i (next_or s.programs x (F2 (x + 1)) F3)))).after
       go true true f c =
           let asked = flag_on (announced_at s x) f in
           let ne : x ≡ p → ⊥ = λ (k : x ≡ p). clash (flagged (announced_at s x)) f (ap (λ q. flagged (announced_at s q)) k ∙ ap flagged a) in
@@ -223,33 +232,33 @@ module _ (s : State) (g : Good s) (p : ℕ) (h : p < s.programs) where
           let g1 : Good s1 = subst (λ v. Good (announce s x (announcement.Plain v))) (mark_same s.current over c)
           (bind_current_good s g x below_all asked.0 asked.1) in
           let same = apart_from x new below_all ne in
-          subst (λ y. Good (put s1 p (seat (next_or s.programs x (F2 r over i (x + 1)) (F3 r over i)) y))) (sym (ap (λ y. y.announced) same ∙ a))
+          subst (λ y. Good (put s1 p (seat (Offering r over i (next_or s.programs x (F2 (x + 1)) F3)) y))) (sym (ap (λ y. y.announced) same ∙ a))
           (f2_next_step s1 g1 p h r over i x (same ∙ is)
           (ap (λ y. flagged y.announced) (at_same s x new (omega (arith, g.sized.3, below_all)))) (ltb (x + 1) s.programs) refl)
-      go true false f c = told s g p h (fill s i slot.Empty) (Offered over) (announcement.Plain over) a
+      go true false f c = told s g p h (fill s i None) (Offered over) (announcement.Plain over) a
           (f2_stale_good s g p h r over i x is (mark_flip over s.current ∙ c))
-      go false c f d = told s g p h s (next_or s.programs x (F2 r over i (x + 1)) (F3 r over i)) (announcement.Plain over) a
+      go false c f d = told s g p h s (Offering r over i (next_or s.programs x (F2 (x + 1)) F3)) (announcement.Plain over) a
           (f2_next_step s g p h r over i x is f (ltb (x + 1) s.programs) refl)
 
-  c4_step : (v : Mark) (x : ℕ) → position_at s p ≡ C4 v x → (b : Bool) → asks v (announced_at s x) ≡ b
+  c4_step : (v : Mark) (x : ℕ) → position_at s p ≡ Closing v (C4 x) → (b : Bool) → asks v (announced_at s x) ≡ b
       → Good (cond b
-      (goes (announce s x (announcement.Plain v)) p (next_or s.programs x (C4 v (x + 1)) (C5 v)))
-      (goes s p (next_or s.programs x (C4 v (x + 1)) (C5 v)))).after
+      (goes (announce s x (announcement.Plain v)) p (Closing v (next_or s.programs x (C4 (x + 1)) C5)))
+      (goes s p (Closing v (next_or s.programs x (C4 (x + 1)) C5)))).after
   c4_step v x e = go
     where
       a : announced_at s p ≡ announcement.Empty
-      a = empty_at s g p h (C4 v x) e refl
+      a = empty_at s g p h (Closing v (C4 x)) e refl
 
-      is : seat_at s p ≡ seat (C4 v x) announcement.Empty
-      is = seat_is s p (C4 v x) announcement.Empty e a
+      is : seat_at s p ≡ seat (Closing v (C4 x)) announcement.Empty
+      is = seat_is s p (Closing v (C4 x)) announcement.Empty e a
 
       below_all : x < s.programs
-      below_all = ltb-true x s.programs (ranged_at s g p h (C4 v x) e)
+      below_all = ltb-true x s.programs (ranged_at s g p h (Closing v (C4 x)) e)
 
       go : (b : Bool) → asks v (announced_at s x) ≡ b
           → Good (cond b
-          (goes (announce s x (announcement.Plain v)) p (next_or s.programs x (C4 v (x + 1)) (C5 v)))
-          (goes s p (next_or s.programs x (C4 v (x + 1)) (C5 v)))).after
+          (goes (announce s x (announcement.Plain v)) p (Closing v (next_or s.programs x (C4 (x + 1)) C5)))
+          (goes s p (Closing v (next_or s.programs x (C4 (x + 1)) C5)))).after
       go true f =
           let asked = asks_help v (announced_at s x) f in
           let ne : x ≡ p → ⊥ = λ (k : x ≡ p). clash (asks v (announced_at s x)) f (ap (λ q. asks v (announced_at s q)) k ∙ ap (asks v) a) in
@@ -257,44 +266,44 @@ module _ (s : State) (g : Good s) (p : ℕ) (h : p < s.programs) where
           let s1 = announce s x (announcement.Plain v) in
           let g1 : Good s1 = bind_pending_good s g x below_all v asked p x (ap (closer s.programs) e) in
           let same = apart_from x new below_all ne in
-          subst (λ y. Good (put s1 p (seat (next_or s.programs x (C4 v (x + 1)) (C5 v)) y))) (sym (ap (λ y. y.announced) same ∙ a))
+          subst (λ y. Good (put s1 p (seat (Closing v (next_or s.programs x (C4 (x + 1)) C5)) y))) (sym (ap (λ y. y.announced) same ∙ a))
           (c4_next_step s1 g1 p h v x (same ∙ is)
           (ap (λ y. asks v y.announced) (at_same s x new (omega (arith, g.sized.3, below_all)))) (ltb (x + 1) s.programs) refl)
-      go false f = told s g p h s (next_or s.programs x (C4 v (x + 1)) (C5 v)) announcement.Empty a
+      go false f = told s g p h s (Closing v (next_or s.programs x (C4 (x + 1)) C5)) announcement.Empty a
           (c4_next_step s g p h v x is f (ltb (x + 1) s.programs) refl)
 
   -- the other labels with a test
-  o3_step : (n : ℕ) (u : Mark) → position_at s p ≡ O3 n u → (b : Bool) → asks u (announced_at s p) ≡ b
+  o3_step : (n : ℕ) (u : Mark) → position_at s p ≡ Opening n u O3 → (b : Bool) → asks u (announced_at s p) ≡ b
       → Good (cond b (opens_on s p (announcement.Plain u)) (opens_on s p (announced_at s p))).after
-  o3_step n u e true f = o3_own_good s g p h n u (seat_is s p (O3 n u) (announcement.Help u) e (asks_help u (announced_at s p) f))
+  o3_step n u e true f = o3_own_good s g p h n u (seat_is s p (Opening n u O3) (announcement.Help u) e (asks_help u (announced_at s p) f))
   o3_step n u e false f =
-      let b = asking_bound u (announced_at s p) (local_at s g p h (O3 n u) e) f in
-      ended s g p h (announcement.Plain b.0) b.1 (o3_bound_good s g p h n u b.0 (seat_is s p (O3 n u) (announcement.Plain b.0) e b.1))
+      let b = asking_bound u (announced_at s p) (local_at s g p h (Opening n u O3) e) f in
+      ended s g p h (announcement.Plain b.0) b.1 (o3_bound_good s g p h n u b.0 (seat_is s p (Opening n u O3) (announcement.Plain b.0) e b.1))
 
-  o5_step : (n : ℕ) (u w : Mark) (r : Round) → position_at s p ≡ O5 n u w r → (b : Bool) → asks u (announced_at s p) ≡ b
-      → Good (cond b (stepped (put s p (seat (O6 n w r) (announcement.Help w))) GoesOn) (opens_on s p (announced_at s p))).after
-  o5_step n u w r e true f = o5_flag_good s g p h n u r w (seat_is s p (O5 n u w r) (announcement.Help u) e (asks_help u (announced_at s p) f))
+  o5_step : (n : ℕ) (u w : Mark) (r : Round) → position_at s p ≡ Opening n u (O5 w r) → (b : Bool) → asks u (announced_at s p) ≡ b
+      → Good (cond b (stepped (put s p (seat (Opening n w (O6 r)) (announcement.Help w))) GoesOn) (opens_on s p (announced_at s p))).after
+  o5_step n u w r e true f = o5_flag_good s g p h n u r w (seat_is s p (Opening n u (O5 w r)) (announcement.Help u) e (asks_help u (announced_at s p) f))
   o5_step n u w r e false f =
-      let b = asking_bound u (announced_at s p) (local_at s g p h (O5 n u w r) e) f in
+      let b = asking_bound u (announced_at s p) (local_at s g p h (Opening n u (O5 w r)) e) f in
       ended s g p h (announcement.Plain b.0) b.1
-      (o5_bound_good s g p h n u r w b.0 (seat_is s p (O5 n u w r) (announcement.Plain b.0) e b.1))
+      (o5_bound_good s g p h n u r w b.0 (seat_is s p (Opening n u (O5 w r)) (announcement.Plain b.0) e b.1))
 
-  o6_step : (n : ℕ) (u : Mark) (r : Round) → position_at s p ≡ O6 n u r → (b : Bool) → is_mark s.current u ≡ b
-      → Good (cond b (goes s p (O3 n u)) (again s p n u r)).after
-  o6_step n u r e true c = o6_same_good s g p h n u r (announced_at s p) (seat_is s p (O6 n u r) (announced_at s p) e refl) c
+  o6_step : (n : ℕ) (u : Mark) (r : Round) → position_at s p ≡ Opening n u (O6 r) → (b : Bool) → is_mark s.current u ≡ b
+      → Good (cond b (goes s p (Opening n u O3)) (again s p n u r)).after
+  o6_step n u r e true c = o6_same_good s g p h n u r (announced_at s p) (seat_is s p (Opening n u (O6 r)) (announced_at s p) e refl) c
   o6_step n u r e false c = o6_again_step s g p h n u r e c
 
-  f3_step : (r : ℕ) (over : Mark) (i : ℕ) → position_at s p ≡ F3 r over i → (b : Bool) → is_mark s.current over ≡ b
+  f3_step : (r : ℕ) (over : Mark) (i : ℕ) → position_at s p ≡ Offering r over i F3 → (b : Bool) → is_mark s.current over ≡ b
       → Good (cond b
       (stepped (go_to (advance s (mark (serial_in (slot_at s i)) i)) p (Offered over)) (Accepted (serial_in (slot_at s i))))
       (stales s p over i)).after
   f3_step r over i e b c = go b c
     where
       a : announced_at s p ≡ announcement.Plain over
-      a = plain_at s g p h (F3 r over i) e over refl
+      a = plain_at s g p h (Offering r over i F3) e over refl
 
-      is : seat_at s p ≡ seat (F3 r over i) (announcement.Plain over)
-      is = seat_is s p (F3 r over i) (announcement.Plain over) e a
+      is : seat_at s p ≡ seat (Offering r over i F3) (announcement.Plain over)
+      is = seat_is s p (Offering r over i F3) (announcement.Plain over) e a
 
       go : (b : Bool) → is_mark s.current over ≡ b
           → Good (cond b
@@ -302,51 +311,49 @@ module _ (s : State) (g : Good s) (p : ℕ) (h : p < s.programs) where
           (stales s p over i)).after
       go true c = told s g p h (advance s (mark (serial_in (slot_at s i)) i)) (Offered over) (announcement.Plain over) a
           (accept_good s g p h r over i is (mark_flip over s.current ∙ c))
-      go false c = told s g p h (fill s i slot.Empty) (Offered over) (announcement.Plain over) a
+      go false c = told s g p h (fill s i None) (Offered over) (announcement.Plain over) a
           (f3_stale_good s g p h r over i is (mark_flip over s.current ∙ c))
 
-  c2_step : (v : Mark) → position_at s p ≡ C2 v → (b : Bool) → is_mark s.current v ≡ b → Good
-      (cond b (stepped (go_to s p Idle) Nothing) (goes s p (C3 v))).after
+  c2_step : (v : Mark) → position_at s p ≡ Closing v C2 → (b : Bool) → is_mark s.current v ≡ b → Good
+      (cond b (stepped (go_to s p Idle) Nothing) (goes s p (Closing v C3))).after
   c2_step v e true c =
-      let a = empty_at s g p h (C2 v) e refl in
-      told s g p h s Idle announcement.Empty a (c2_end_good s g p h v (seat_is s p (C2 v) announcement.Empty e a) c)
+      let a = empty_at s g p h (Closing v C2) e refl in
+      told s g p h s Idle announcement.Empty a (c2_end_good s g p h v (seat_is s p (Closing v C2) announcement.Empty e a) c)
   c2_step v e false c =
-      let a = empty_at s g p h (C2 v) e refl in
-      told s g p h s (C3 v) announcement.Empty a (c2_go_good s g p h v (seat_is s p (C2 v) announcement.Empty e a) c)
+      let a = empty_at s g p h (Closing v C2) e refl in
+      told s g p h s (Closing v C3) announcement.Empty a (c2_go_good s g p h v (seat_is s p (Closing v C2) announcement.Empty e a) c)
 
-  c6_step : (v : Mark) (x : ℕ) → position_at s p ≡ C6 v x → (b : Bool) → bears v (announced_at s x) ≡ b
-      → Good (cond b (stepped (go_to s p Idle) Nothing) (goes s p (next_or s.programs x (C6 v (x + 1)) (C7 v)))).after
+  c6_step : (v : Mark) (x : ℕ) → position_at s p ≡ Closing v (C6 x) → (b : Bool) → bears v (announced_at s x) ≡ b
+      → Good (cond b (stepped (go_to s p Idle) Nothing) (goes s p (Closing v (next_or s.programs x (C6 (x + 1)) C7)))).after
   c6_step v x e true f =
-      let a = empty_at s g p h (C6 v x) e refl in
-      told s g p h s Idle announcement.Empty a (c6_end_good s g p h v x (seat_is s p (C6 v x) announcement.Empty e a) f)
+      let a = empty_at s g p h (Closing v (C6 x)) e refl in
+      told s g p h s Idle announcement.Empty a (c6_end_good s g p h v x (seat_is s p (Closing v (C6 x)) announcement.Empty e a) f)
   c6_step v x e false f =
-      let a = empty_at s g p h (C6 v x) e refl in
-      told s g p h s (next_or s.programs x (C6 v (x + 1)) (C7 v)) announcement.Empty a
-      (c6_next_step s g p h v x (seat_is s p (C6 v x) announcement.Empty e a) f (ltb (x + 1) s.programs) refl)
+      let a = empty_at s g p h (Closing v (C6 x)) e refl in
+      told s g p h s (Closing v (next_or s.programs x (C6 (x + 1)) C7)) announcement.Empty a
+      (c6_next_step s g p h v x (seat_is s p (Closing v (C6 x)) announcement.Empty e a) f (ltb (x + 1) s.programs) refl)
 
   step_at_good : (at : Position) → position_at s p ≡ at → Good (step_at s p at).after
-  step_at_good Idle e = g
-  step_at_good (O1 n u) e = o1_good s g p h n u (seat_is s p (O1 n u) announcement.Empty e (empty_at s g p h (O1 n u) e refl))
-  step_at_good (O2 n u) e = o2_step s g p h n u e (is_mark s.current u) refl
-  step_at_good (O3 n u) e = o3_step n u e (asks u (announced_at s p)) refl
-  step_at_good (O4 n u r) e = o4_good s g p h n u r (announced_at s p) (seat_is s p (O4 n u r) (announced_at s p) e refl)
-  step_at_good (O5 n u w r) e = o5_step n u w r e (asks u (announced_at s p)) refl
-  step_at_good (O6 n u r) e = o6_step n u r e (is_mark s.current u) refl
-  step_at_good (Open v) e = g
-  step_at_good (F1 r over i) e = f1_step s g p h r over i e (slot_at s i) refl
-  step_at_good (F2 r over i x) e = f2_step r over i x e (flagged (announced_at s x)) (is_mark s.current over) refl refl
-  step_at_good (F3 r over i) e = f3_step r over i e (is_mark s.current over) refl
-  step_at_good (Offered v) e = g
-  step_at_good (C1 v) e = c1_good s g p h v (seat_is s p (C1 v) (announcement.Plain v) e (plain_at s g p h (C1 v) e v refl))
-  step_at_good (C2 v) e = c2_step v e (is_mark s.current v) refl
-  step_at_good (C3 v) e = c3_step s g p h v e (slot_at s v.slot) refl
-  step_at_good (C4 v x) e = c4_step v x e (asks v (announced_at s x)) refl
-  step_at_good (C5 v) e =
-      let a = empty_at s g p h (C5 v) e refl in
-      told s g p h (fill s v.slot (restated Frozen (slot_at s v.slot))) (C6 v 0) announcement.Empty a
-      (c5_good s g p h v (seat_is s p (C5 v) announcement.Empty e a))
-  step_at_good (C6 v x) e = c6_step v x e (bears v (announced_at s x)) refl
-  step_at_good (C7 v) e = c7_step s g p h v e (slot_at s v.slot) refl
+  step_at_good (Opening n u O1) e = o1_good s g p h n u (seat_is s p (Opening n u O1) announcement.Empty e (empty_at s g p h (Opening n u O1) e refl))
+  step_at_good (Opening n u O2) e = o2_step s g p h n u e (is_mark s.current u) refl
+  step_at_good (Opening n u O3) e = o3_step n u e (asks u (announced_at s p)) refl
+  step_at_good (Opening n u (O4 r)) e = o4_good s g p h n u r (announced_at s p) (seat_is s p (Opening n u (O4 r)) (announced_at s p) e refl)
+  step_at_good (Opening n u (O5 w r)) e = o5_step n u w r e (asks u (announced_at s p)) refl
+  step_at_good (Opening n u (O6 r)) e = o6_step n u r e (is_mark s.current u) refl
+  step_at_good (Offering r over i F1) e = f1_step s g p h r over i e (slot_at s i) refl
+  step_at_good (Offering r over i (F2 x)) e = f2_step r over i x e (flagged (announced_at s x)) (is_mark s.current over) refl refl
+  step_at_good (Offering r over i F3) e = f3_step r over i e (is_mark s.current over) refl
+  step_at_good (Closing v C1) e = c1_good s g p h v (seat_is s p (Closing v C1) (announcement.Plain v) e (plain_at s g p h (Closing v C1) e v refl))
+  step_at_good (Closing v C2) e = c2_step v e (is_mark s.current v) refl
+  step_at_good (Closing v C3) e = c3_step s g p h v e (slot_at s v.slot) refl
+  step_at_good (Closing v (C4 x)) e = c4_step v x e (asks v (announced_at s x)) refl
+  step_at_good (Closing v C5) e =
+      let a = empty_at s g p h (Closing v C5) e refl in
+      told s g p h (fill s v.slot (restated Frozen (slot_at s v.slot))) (Closing v (C6 0)) announcement.Empty a
+      (c5_good s g p h v (seat_is s p (Closing v C5) announcement.Empty e a))
+  step_at_good (Closing v (C6 x)) e = c6_step v x e (bears v (announced_at s x)) refl
+  step_at_good (Closing v C7) e = c7_step s g p h v e (slot_at s v.slot) refl
+  step_at_good _ e = g
 
   -- a step of any program keeps what always holds
   pub step_good : Good (step s p).after

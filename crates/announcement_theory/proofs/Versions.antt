@@ -3,10 +3,11 @@ use Rattle.std.proofs.Common.{◌≡◌, ℕ, ◌+◌, ◌*◌, ◌<◌, Bool, t
 use Rattle.std.proofs.lemmas.Bool.{cases_eq, ne_eqb}
 use Rattle.announcement_theory.specs.declared.mark.Mark.{Mark}
 use Rattle.announcement_theory.specs.declared.slot.Status.{Status}
-use Rattle.announcement_theory.specs.declared.slot.Slot.{Slot}
-use Rattle.announcement_theory.specs.declared.slot.Slot.TheVariants as slot
+use Rattle.announcement_theory.specs.declared.slot.Stored.{Stored}
 use Rattle.announcement_theory.specs.declared.announcement.Announcement.TheVariants as announcement
-use Rattle.announcement_theory.specs.declared.position.Position.TheVariants.{Idle, F3, Offered, C7}
+use Rattle.announcement_theory.specs.declared.position.Position.TheVariants.{Idle, Offering, Offered, Closing}
+use Rattle.announcement_theory.specs.declared.position.OfferLabel.TheVariants.{F3}
+use Rattle.announcement_theory.specs.declared.position.CloseLabel.TheVariants.{C7}
 use Rattle.announcement_theory.specs.declared.seat.Seat.{Seat}
 use Rattle.announcement_theory.specs.State.{State, mark, seat, slot_at, seat_at, position_at, announced_at}
 use Rattle.announcement_theory.specs.Tests.{is_mark, serial_in, root_in, usable, frozen, restated}
@@ -40,7 +41,7 @@ pub same_current : (s t : State) → t.current ≡ s.current → root_in (slot_a
 same_current s t e f = ap (λ v. version v.serial (root_in (slot_at t v.slot))) e ∙ ap (version s.current.serial) f
 
 -- slot i becomes y, and p owns it before or after, and not at both times
-module _ (s : State) (g : Good s) (p : ℕ) (h : p < s.programs) (i : ℕ) (y : Slot) (x : Seat) (in_slots : i < length s.slots)
+module _ (s : State) (g : Good s) (p : ℕ) (h : p < s.programs) (i : ℕ) (y : Option Stored) (x : Seat) (in_slots : i < length s.slots)
     (old : i ≡ s.current.slot → ⊥) where
   abbrev after : State
   after = put (fill s i y) p x
@@ -62,26 +63,26 @@ module _ (s : State) (g : Good s) (p : ℕ) (h : p < s.programs) (i : ℕ) (y : 
   }
 
   -- p fills an empty slot and owns it
-  pub fills : owned (position_at s p) ≡ None → owned x.position ≡ Some i → slot_at s i ≡ slot.Empty → Unmoved (meaning_of s) (meaning_of after)
+  pub fills : owned (position_at s p) ≡ None → owned x.position ≡ Some i → slot_at s i ≡ None → Unmoved (meaning_of s) (meaning_of after)
   fills before now vacant = untouched
       (λ j ne. ap (is_slot j) now ∙ slot_apart j i ne ∙ sym (ap (is_slot j) before))
       (entry_taken after i (owned_taken after i p (ap (λ z. owned z.position) (at_same (fill s i y) p x within) ∙ now)) ∙ sym
       (entry_empty s i vacant))
 
   -- p empties the slot that it owned
-  pub empties : owned (position_at s p) ≡ Some i → owned x.position ≡ None → y ≡ slot.Empty → Unmoved (meaning_of s) (meaning_of after)
+  pub empties : owned (position_at s p) ≡ Some i → owned x.position ≡ None → y ≡ None → Unmoved (meaning_of s) (meaning_of after)
   empties before now none = untouched
       (λ j ne. ap (is_slot j) now ∙ sym (slot_apart j i ne) ∙ sym (ap (is_slot j) before))
       (entry_empty after i (slot_same s i y in_slots ∙ none) ∙ sym (entry_taken s i (owned_taken s i p before)))
 
-restated_entry : (st : Status) (x : Slot) (b : Bool) → entry_in (restated st x) b ≡ entry_in x b
-restated_entry st slot.Empty b = refl
-restated_entry st (slot.Filled n r o) true = refl
-restated_entry st (slot.Filled n r o) false = refl
+restated_entry : (st : Status) (x : Option Stored) (b : Bool) → entry_in (restated st x) b ≡ entry_in x b
+restated_entry st None b = refl
+restated_entry st (Some x) true = refl
+restated_entry st (Some x) false = refl
 
-restated_root : (st : Status) (x : Slot) → root_in (restated st x) ≡ root_in x
-restated_root st slot.Empty = refl
-restated_root st (slot.Filled n r o) = refl
+restated_root : (st : Status) (x : Option Stored) → root_in (restated st x) ≡ root_in x
+restated_root st None = refl
+restated_root st (Some x) = refl
 
 -- another status leaves what is kept
 pub restates : (s : State) → Good s → (p : ℕ) → p < s.programs → (j : ℕ) (st : Status) (x : Seat) → j < length s.slots
@@ -97,12 +98,12 @@ restates s g p h j st x in_slots free = record {
       0 (3 * s.programs + 1);
 }
   where
-    y : Slot
+    y : Option Stored
     y = restated st (slot_at s j)
 
 -- an accepted offer
 module _ (s : State) (g : Good s) (p : ℕ) (h : p < s.programs) (r : ℕ) (over : Mark) (i : ℕ)
-    (was : seat_at s p ≡ seat (F3 r over i) (announcement.Plain over))
+    (was : seat_at s p ≡ seat (Offering r over i F3) (announcement.Plain over))
     (current : is_mark over s.current ≡ true) where
   pub accepts : StepDone (meaning_of s) p (meaning_of
       (put (advance s (mark (serial_in (slot_at s i)) i)) p (seat (Offered over) (announcement.Plain over)))) (Accepted (serial_in (slot_at s i)))
@@ -128,7 +129,7 @@ module _ (s : State) (g : Good s) (p : ℕ) (h : p < s.programs) (r : ℕ) (over
       t = advance s (mark (serial_in (slot_at s i)) i)
 
       old : Seat
-      old = seat (F3 r over i) (announcement.Plain over)
+      old = seat (Offering r over i F3) (announcement.Plain over)
 
       x : Seat
       x = seat (Offered over) (announcement.Plain over)
@@ -149,9 +150,9 @@ module _ (s : State) (g : Good s) (p : ℕ) (h : p < s.programs) (r : ℕ) (over
       root_is = (g.own p r over i s.programs (ap (λ y. offerer s.programs y.position) was)).1
 
 -- a version is handed out
-module _ (s : State) (g : Good s) (p : ℕ) (h : p < s.programs) (v : Mark) (was : seat_at s p ≡ seat (C7 v) announcement.Empty) (stands : Holds s v)
+module _ (s : State) (g : Good s) (p : ℕ) (h : p < s.programs) (v : Mark) (was : seat_at s p ≡ seat (Closing v C7) announcement.Empty) (stands : Holds s v)
     (icy : frozen (slot_at s v.slot) ≡ true) where
-  pub hands_out : StepDone (meaning_of s) p (meaning_of (put (fill s v.slot slot.Empty) p (seat Idle announcement.Empty))) (HandedOut v.serial)
+  pub hands_out : StepDone (meaning_of s) p (meaning_of (put (fill s v.slot None) p (seat Idle announcement.Empty))) (HandedOut v.serial)
   hands_out = (
     frame s g p h t x refl refl refl,
     record {
@@ -161,28 +162,28 @@ module _ (s : State) (g : Good s) (p : ℕ) (h : p < s.programs) (v : Mark) (was
       old = λ e. not_current (current_only s g p v mentions stands e);
       unused = unused;
       current = same_current s after refl (ap root_in
-          (slot_other s v.slot slot.Empty in_slots s.current.slot (λ (e : s.current.slot ≡ v.slot).
+          (slot_other s v.slot None in_slots s.current.slot (λ (e : s.current.slot ≡ v.slot).
           not_current (one_slot s v s.current stands (current_stands s g) (sym e)))));
       removed = λ f. gathered_more f (entry_at after) (entry_at s) v.slot (version v.serial (root_at v.serial (kept_of s)))
-          (entry_empty after v.slot (slot_same s v.slot slot.Empty in_slots))
+          (entry_empty after v.slot (slot_same s v.slot None in_slots))
           (entry_kept s v.slot kept_here ∙ ap {B = Option Version} Some version_is)
           (λ k ne. sym (entry_put t p x (omega (arith, g.sized.3)) k (sym (ap (λ y. is_slot k (owned y.position)) was))
-          ∙ ap (λ z. entry_in z (eqb (owners s k) 0)) (slot_other s v.slot slot.Empty in_slots k ne)))
+          ∙ ap (λ z. entry_in z (eqb (owners s k) 0)) (slot_other s v.slot None in_slots k ne)))
           0 (3 * s.programs + 1) (omega arith) (kept_in_range s g v.slot kept_here);
     },
   )
     where
       t : State
-      t = fill s v.slot slot.Empty
+      t = fill s v.slot None
 
       old : Seat
-      old = seat (C7 v) announcement.Empty
+      old = seat (Closing v C7) announcement.Empty
 
       x : Seat
       x = seat Idle announcement.Empty
 
       after : State
-      after = put (fill s v.slot slot.Empty) p (seat Idle announcement.Empty)
+      after = put (fill s v.slot None) p (seat Idle announcement.Empty)
 
       in_slots : v.slot < length s.slots
       in_slots = holds_in_range s v stands

@@ -2,7 +2,7 @@
 use Rattle.std.proofs.Common.{◌≡◌, ℕ, ◌<◌, ◌≤◌, Bool, true, false, cond, ◌||◌, ◌⊎◌, Some, Option, sym, ap, ◌∙◌, inl, inr, ⊎_elim, arith}
 use Rattle.std.proofs.lemmas.Bool.{cases_lt, or_cases}
 use Rattle.announcement_theory.specs.declared.mark.Mark.{Mark}
-use Rattle.announcement_theory.specs.declared.slot.Slot.{Slot}
+use Rattle.announcement_theory.specs.declared.slot.Stored.{Stored}
 use Rattle.announcement_theory.specs.declared.announcement.Announcement.{Announcement}
 use Rattle.announcement_theory.specs.declared.announcement.Announcement.TheVariants as announcement
 use Rattle.announcement_theory.specs.State.{State, mark, slot_at, seat_at, position_at, announced_at}
@@ -28,7 +28,7 @@ leaves_closed v (pends w a) e = false_true e
 leaves_closed v (sweeps w b) e = ap {B = Option Mark} Some (sym (mark_same v w e))
 
 -- who waits for v announces it without help, or is closing it
-pub waits_how : (x : Slot) (v : Mark) (a : Announcement) (c : Closer) → waits_on x v a c ≡ true → (a ≡ announcement.Plain v) ⊎ (closed c ≡ Some v)
+pub waits_how : (x : Option Stored) (v : Mark) (a : Announcement) (c : Closer) → waits_on x v a c ≡ true → (a ≡ announcement.Plain v) ⊎ (closed c ≡ Some v)
 waits_how x v a c e = go (pending x) e
   where
     go : (b : Bool) → cond b (pends_on v c) (bears v a || leaves_on v c) ≡ true → (a ≡ announcement.Plain v) ⊎ (closed c ≡ Some v)

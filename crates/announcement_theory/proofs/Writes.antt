@@ -1,9 +1,8 @@
 -- What a write to one slot leaves of the other programs.
-use Rattle.std.proofs.Common.{◌≡◌, ℕ, ◌+◌, ◌<◌, true, false, length, Some, Option, sym, ap, ◌∙◌, subst, ⊎_elim, length-set, get_or-set_other, get_or-set_same}
+use Rattle.std.proofs.Common.{◌≡◌, ℕ, ◌+◌, ◌<◌, true, false, length, Some, Option, None, sym, ap, ◌∙◌, subst, ⊎_elim, length-set, get_or-set_other, get_or-set_same}
 use Rattle.std.proofs.lemmas.Bool.{cases_eq}
 use Rattle.announcement_theory.specs.declared.mark.Mark.{Mark}
-use Rattle.announcement_theory.specs.declared.slot.Slot.{Slot}
-use Rattle.announcement_theory.specs.declared.slot.Slot.TheVariants as slot
+use Rattle.announcement_theory.specs.declared.slot.Stored.{Stored}
 use Rattle.announcement_theory.specs.declared.announcement.Announcement.TheVariants as announcement
 use Rattle.announcement_theory.specs.State.{State, slot_at, seat_at, position_at, announced_at}
 use Rattle.announcement_theory.specs.Tests.{is_mark, serial_in, root_in, holds, usable, pending, frozen}
@@ -13,7 +12,7 @@ use Rattle.announcement_theory.specs.Invariant.{Good}
 use Rattle.announcement_theory.proofs.Good.{Other, Rest}
 
 -- a program other than p keeps what it has where slot j becomes y
-pub record Written (s : State) (p j : ℕ) (y : Slot) : Type 0 where
+pub record Written (s : State) (p j : ℕ) (y : Option Stored) : Type 0 where
   pub fresh : (q z : ℕ) → Other p q → Other p z → (v : Mark) → v.slot ≡ j → Mentions (seat_at s q) v → owned (position_at s z) ≡ Some j
       → holds v y ≡ true → ⊥
   pub current : s.current.slot ≡ j → (usable y ≡ true) × (serial_in y ≡ s.current.serial)
@@ -30,22 +29,22 @@ pub record Written (s : State) (p j : ℕ) (y : Slot) : Type 0 where
   pub froze : (z : ℕ) → Other p z → (v : Mark) (b : ℕ) → v.slot ≡ j → closer s.programs (position_at s z) ≡ sweeps v b → holds v y ≡ true
       → frozen y ≡ true
 
-module _ (s : State) (j : ℕ) (y : Slot) (here : j < length s.slots) where
+module _ (s : State) (j : ℕ) (y : Option Stored) (here : j < length s.slots) where
   pub slot_same : slot_at (fill s j y) j ≡ y
-  slot_same = get_or-set_same s.slots j y slot.Empty here
+  slot_same = get_or-set_same s.slots j y None here
 
   pub slot_other : (h : ℕ) → (h ≡ j → ⊥) → slot_at (fill s j y) h ≡ slot_at s h
-  slot_other h ne = get_or-set_other s.slots j h y slot.Empty ne
+  slot_other h ne = get_or-set_other s.slots j h y None ne
 
   -- a fact of slot h, which is j or not
-  pub slot_each : (Q : Slot → Type 0) (h : ℕ) → (h ≡ j → Q y) → ((h ≡ j → ⊥) → Q (slot_at s h)) → Q (slot_at (fill s j y) h)
+  pub slot_each : (Q : Option Stored → Type 0) (h : ℕ) → (h ≡ j → Q y) → ((h ≡ j → ⊥) → Q (slot_at s h)) → Q (slot_at (fill s j y) h)
   slot_each Q h new old = ⊎_elim
       (λ (e : h ≡ j). subst (λ k. Q (slot_at (fill s j y) k)) (sym e) (subst Q (sym slot_same) (new e)))
       (λ (ne : h ≡ j → ⊥). subst Q (sym (slot_other h ne)) (old ne))
       (cases_eq h j)
 
   -- the same, read back
-  pub slot_back : (Q : Slot → Type 0) (R : Type 0) (h : ℕ) → Q (slot_at (fill s j y) h) → (h ≡ j → Q y → R) → ((h ≡ j → ⊥) → Q (slot_at s h) → R) → R
+  pub slot_back : (Q : Option Stored → Type 0) (R : Type 0) (h : ℕ) → Q (slot_at (fill s j y) h) → (h ≡ j → Q y → R) → ((h ≡ j → ⊥) → Q (slot_at s h) → R) → R
   slot_back Q R h q new old = ⊎_elim
       (λ (e : h ≡ j). new e (subst Q slot_same (subst (λ k. Q (slot_at (fill s j y) k)) e q)))
       (λ (ne : h ≡ j → ⊥). old ne (subst Q (slot_other h ne) q))

@@ -1,7 +1,7 @@
 -- What always holds of the announcement keeper's state. Each part speaks of the state, one program, two programs, or slots.
-use Rattle.std.specs.Prelude.{◌≡◌, ℕ, ◌+◌, ◌*◌, ◌<◌, ◌≤◌, Bool, true, false, cond, ◌||◌, length, Some, ◌≢◌}
+use Rattle.std.specs.Prelude.{◌≡◌, ℕ, ◌+◌, ◌*◌, ◌<◌, ◌≤◌, Bool, true, false, cond, ◌||◌, length, Some, Option, ◌≢◌}
 use Rattle.announcement_theory.specs.declared.mark.Mark.{Mark}
-use Rattle.announcement_theory.specs.declared.slot.Slot.{Slot}
+use Rattle.announcement_theory.specs.declared.slot.Stored.{Stored}
 use Rattle.announcement_theory.specs.declared.announcement.Announcement.{Announcement}
 use Rattle.announcement_theory.specs.declared.announcement.Announcement.TheVariants as announcement
 use Rattle.announcement_theory.specs.declared.seat.Seat.{Seat}
@@ -36,7 +36,7 @@ leaves_on v (sweeps w b) = is_mark v w
 
 -- a program waits for the version v in a slot, so that it will not be forgotten there: in a pending slot the program that made it so,
 -- in any other one that has v or is closing it
-abbrev pub waits_on : Slot → Mark → Announcement → Closer → Bool
+abbrev pub waits_on : Option Stored → Mark → Announcement → Closer → Bool
 waits_on x v a c = cond (pending x) (pends_on v c) (bears v a || leaves_on v c)
 
 -- a program in the seat x waits for the version in slot j

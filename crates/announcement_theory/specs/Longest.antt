@@ -5,7 +5,10 @@ use Rattle.announcement_theory.specs.declared.mark.Mark.{Mark}
 use Rattle.announcement_theory.specs.declared.position.Round.{Round}
 use Rattle.announcement_theory.specs.declared.position.Round.TheVariants.{First, Second}
 use Rattle.announcement_theory.specs.declared.position.Position.{Position}
-use Rattle.announcement_theory.specs.declared.position.Position.TheVariants.{Idle, O1, O2, O3, O4, O5, O6, Open, F1, F2, F3, Offered, C1, C2, C3, C4, C5, C6, C7}
+use Rattle.announcement_theory.specs.declared.position.Position.TheVariants.{Opening, Offering, Closing}
+use Rattle.announcement_theory.specs.declared.position.OpenLabel.TheVariants.{O1, O2, O3, O4, O5, O6}
+use Rattle.announcement_theory.specs.declared.position.OfferLabel.TheVariants.{F1, F2, F3}
+use Rattle.announcement_theory.specs.declared.position.CloseLabel.TheVariants.{C1, C2, C3, C4, C5, C6, C7}
 use Rattle.announcement_theory.specs.State.{State, position_at}
 use Rattle.announcement_theory.specs.Next.{step, next_or}
 use Rattle.announcement_theory.specs.Views.{ranged}
@@ -13,30 +16,25 @@ use Rattle.announcement_theory.specs.Means.{left_at, label_of}
 
 -- after O6 a second round, if this is the first
 abbrev pub rounds : ℕ → Mark → Round → List Position
-rounds n u First = O3 n u ∷ O4 n u Second ∷ []
-rounds n u Second = O3 n u ∷ []
+rounds n u First = Opening n u O3 ∷ Opening n u (O4 Second) ∷ []
+rounds n u Second = Opening n u O3 ∷ []
 
 -- where a step at each label can lead, if it does not end the operation, with `all` programs and c the current version
 abbrev pub successors : ℕ → Mark → Position → List Position
-successors all c Idle = []
-successors all c (O1 n u) = O2 n u ∷ []
-successors all c (O2 n u) = O3 n u ∷ O4 n u First ∷ []
-successors all c (O3 n u) = []
-successors all c (O4 n u r) = O5 n u c r ∷ []
-successors all c (O5 n u w r) = O6 n w r ∷ []
-successors all c (O6 n u r) = rounds n u r
-successors all c (Open v) = []
-successors all c (F1 r over i) = F2 r over i 0 ∷ cond (nat_lt i (3 * all)) (F1 r over (i + 1) ∷ []) []
-successors all c (F2 r over i x) = next_or all x (F2 r over i (x + 1)) (F3 r over i) ∷ []
-successors all c (F3 r over i) = []
-successors all c (Offered v) = []
-successors all c (C1 v) = C2 v ∷ []
-successors all c (C2 v) = C3 v ∷ []
-successors all c (C3 v) = C4 v 0 ∷ C6 v 0 ∷ []
-successors all c (C4 v x) = next_or all x (C4 v (x + 1)) (C5 v) ∷ []
-successors all c (C5 v) = C6 v 0 ∷ []
-successors all c (C6 v x) = next_or all x (C6 v (x + 1)) (C7 v) ∷ []
-successors all c (C7 v) = []
+successors all c (Opening n u O1) = Opening n u O2 ∷ []
+successors all c (Opening n u O2) = Opening n u O3 ∷ Opening n u (O4 First) ∷ []
+successors all c (Opening n u (O4 r)) = Opening n u (O5 c r) ∷ []
+successors all c (Opening n u (O5 w r)) = Opening n w (O6 r) ∷ []
+successors all c (Opening n u (O6 r)) = rounds n u r
+successors all c (Offering r over i F1) = Offering r over i (F2 0) ∷ cond (nat_lt i (3 * all)) (Offering r over (i + 1) F1 ∷ []) []
+successors all c (Offering r over i (F2 x)) = Offering r over i (next_or all x (F2 (x + 1)) F3) ∷ []
+successors all c (Closing v C1) = Closing v C2 ∷ []
+successors all c (Closing v C2) = Closing v C3 ∷ []
+successors all c (Closing v C3) = Closing v (C4 0) ∷ Closing v (C6 0) ∷ []
+successors all c (Closing v (C4 x)) = Closing v (next_or all x (C4 (x + 1)) C5) ∷ []
+successors all c (Closing v C5) = Closing v (C6 0) ∷ []
+successors all c (Closing v (C6 x)) = Closing v (next_or all x (C6 (x + 1)) C7) ∷ []
+successors all c _ = []
 
 -- the position is one of a list
 abbrev pub Among : Position → List Position → Type 0

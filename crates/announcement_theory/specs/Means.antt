@@ -5,8 +5,7 @@ use Rattle.keeper.specs.declared.stage.Stage.{Stage}
 use Rattle.keeper.specs.declared.stage.Stage.TheVariants as stage
 use Rattle.keeper.specs.Totals.{total}
 use Rattle.keeper.specs.Meaning.{Meaning, version}
-use Rattle.announcement_theory.specs.declared.slot.Slot.{Slot}
-use Rattle.announcement_theory.specs.declared.slot.Slot.TheVariants as slot
+use Rattle.announcement_theory.specs.declared.slot.Stored.{Stored}
 use Rattle.announcement_theory.specs.declared.announcement.Announcement.{Announcement}
 use Rattle.announcement_theory.specs.declared.announcement.Announcement.TheVariants as announcement
 use Rattle.announcement_theory.specs.declared.position.Round.{Round}
@@ -14,7 +13,13 @@ use Rattle.announcement_theory.specs.declared.position.Round.TheVariants.{First,
 use Rattle.announcement_theory.specs.declared.position.Label.{Label}
 use Rattle.announcement_theory.specs.declared.position.Label.TheVariants as label
 use Rattle.announcement_theory.specs.declared.position.Position.{Position}
-use Rattle.announcement_theory.specs.declared.position.Position.TheVariants.{Idle, O1, O2, O3, O4, O5, O6, Open, F1, F2, F3, Offered, C1, C2, C3, C4, C5, C6, C7}
+use Rattle.announcement_theory.specs.declared.position.Position.TheVariants.{Idle, Opening, Open, Offering, Offered, Closing}
+use Rattle.announcement_theory.specs.declared.position.OpenLabel.{OpenLabel}
+use Rattle.announcement_theory.specs.declared.position.OpenLabel.TheVariants.{O1, O2, O3, O4, O5, O6}
+use Rattle.announcement_theory.specs.declared.position.OfferLabel.{OfferLabel}
+use Rattle.announcement_theory.specs.declared.position.OfferLabel.TheVariants.{F1, F2, F3}
+use Rattle.announcement_theory.specs.declared.position.CloseLabel.{CloseLabel}
+use Rattle.announcement_theory.specs.declared.position.CloseLabel.TheVariants.{C1, C2, C3, C4, C5, C6, C7}
 use Rattle.announcement_theory.specs.declared.seat.Seat.{Seat}
 use Rattle.announcement_theory.specs.State.{State, slot_at}
 use Rattle.announcement_theory.specs.Tests.{root_in}
@@ -29,24 +34,11 @@ bound (announcement.Help v) = None
 -- the stage of a program at each label
 abbrev pub stage_from : Announcement → Position → Stage
 stage_from a Idle = stage.Idle
-stage_from a (O1 since u) = stage.Opening since (bound a)
-stage_from a (O2 since u) = stage.Opening since (bound a)
-stage_from a (O3 since u) = stage.Opening since (bound a)
-stage_from a (O4 since u round) = stage.Opening since (bound a)
-stage_from a (O5 since u w round) = stage.Opening since (bound a)
-stage_from a (O6 since u round) = stage.Opening since (bound a)
+stage_from a (Opening since u at) = stage.Opening since (bound a)
 stage_from a (Open v) = stage.Open v.serial
-stage_from a (F1 r over i) = stage.Offering r over.serial
-stage_from a (F2 r over i x) = stage.Offering r over.serial
-stage_from a (F3 r over i) = stage.Offering r over.serial
+stage_from a (Offering r over i at) = stage.Offering r over.serial
 stage_from a (Offered v) = stage.Offered v.serial
-stage_from a (C1 v) = stage.Closing v.serial
-stage_from a (C2 v) = stage.Closing v.serial
-stage_from a (C3 v) = stage.Closing v.serial
-stage_from a (C4 v x) = stage.Closing v.serial
-stage_from a (C5 v) = stage.Closing v.serial
-stage_from a (C6 v x) = stage.Closing v.serial
-stage_from a (C7 v) = stage.Closing v.serial
+stage_from a (Closing v at) = stage.Closing v.serial
 
 -- the stage of a program by its seat
 abbrev pub stage_in : Seat → Stage
@@ -60,46 +52,56 @@ in_round Second a b = b
 -- the steps of the longest way to an end, where there are `all` programs
 abbrev pub left_at : ℕ → Position → ℕ
 left_at all Idle = 0
-left_at all (O1 since u) = 9
-left_at all (O2 since u) = 8
-left_at all (O3 since u) = 1
-left_at all (O4 since u round) = in_round round 7 4
-left_at all (O5 since u w round) = in_round round 6 3
-left_at all (O6 since u round) = in_round round 5 2
+left_at all (Opening since u O1) = 9
+left_at all (Opening since u O2) = 8
+left_at all (Opening since u O3) = 1
+left_at all (Opening since u (O4 round)) = in_round round 7 4
+left_at all (Opening since u (O5 w round)) = in_round round 6 3
+left_at all (Opening since u (O6 round)) = in_round round 5 2
 left_at all (Open v) = 0
-left_at all (F1 r over i) = 4 * all + 2 - i
-left_at all (F2 r over i x) = all + 1 - x
-left_at all (F3 r over i) = 1
+left_at all (Offering r over i F1) = 4 * all + 2 - i
+left_at all (Offering r over i (F2 x)) = all + 1 - x
+left_at all (Offering r over i F3) = 1
 left_at all (Offered v) = 0
-left_at all (C1 v) = 2 * all + 5
-left_at all (C2 v) = 2 * all + 4
-left_at all (C3 v) = 2 * all + 3
-left_at all (C4 v x) = 2 * all + 2 - x
-left_at all (C5 v) = all + 2
-left_at all (C6 v x) = all + 1 - x
-left_at all (C7 v) = 1
+left_at all (Closing v C1) = 2 * all + 5
+left_at all (Closing v C2) = 2 * all + 4
+left_at all (Closing v C3) = 2 * all + 3
+left_at all (Closing v (C4 x)) = 2 * all + 2 - x
+left_at all (Closing v C5) = all + 2
+left_at all (Closing v (C6 x)) = all + 1 - x
+left_at all (Closing v C7) = 1
+
+-- the labels of an open, of an offer and of a close, by their names alone
+abbrev pub open_label : OpenLabel → Label
+open_label O1 = label.O1
+open_label O2 = label.O2
+open_label O3 = label.O3
+open_label (O4 round) = label.O4
+open_label (O5 w round) = label.O5
+open_label (O6 round) = label.O6
+
+abbrev pub offer_label : OfferLabel → Label
+offer_label F1 = label.F1
+offer_label (F2 x) = label.F2
+offer_label F3 = label.F3
+
+abbrev pub close_label : CloseLabel → Label
+close_label C1 = label.C1
+close_label C2 = label.C2
+close_label C3 = label.C3
+close_label (C4 x) = label.C4
+close_label C5 = label.C5
+close_label (C6 x) = label.C6
+close_label C7 = label.C7
 
 -- the label of an operation under way
 abbrev pub label_of : Position → Option Label
 label_of Idle = None
-label_of (O1 since u) = Some label.O1
-label_of (O2 since u) = Some label.O2
-label_of (O3 since u) = Some label.O3
-label_of (O4 since u round) = Some label.O4
-label_of (O5 since u w round) = Some label.O5
-label_of (O6 since u round) = Some label.O6
+label_of (Opening since u at) = Some (open_label at)
 label_of (Open v) = None
-label_of (F1 r over i) = Some label.F1
-label_of (F2 r over i x) = Some label.F2
-label_of (F3 r over i) = Some label.F3
+label_of (Offering r over i at) = Some (offer_label at)
 label_of (Offered v) = None
-label_of (C1 v) = Some label.C1
-label_of (C2 v) = Some label.C2
-label_of (C3 v) = Some label.C3
-label_of (C4 v x) = Some label.C4
-label_of (C5 v) = Some label.C5
-label_of (C6 v x) = Some label.C6
-label_of (C7 v) = Some label.C7
+label_of (Closing v at) = Some (close_label at)
 
 -- 1 where the slot is j
 abbrev pub is_slot : ℕ → Option ℕ → ℕ
@@ -111,10 +113,10 @@ abbrev pub owners : State → ℕ → ℕ
 owners s j = total (λ (x : Seat). is_slot j (owned x.position)) s.seats
 
 -- the version in a slot, if no one owns it
-abbrev pub entry_in : Slot → Bool → Option Version
-entry_in slot.Empty free = None
-entry_in (slot.Filled n r st) true = Some (version n r)
-entry_in (slot.Filled n r st) false = None
+abbrev pub entry_in : Option Stored → Bool → Option Version
+entry_in None free = None
+entry_in (Some x) true = Some (version x.serial x.root)
+entry_in (Some x) false = None
 
 -- the version that slot j keeps: that of a program still offering is not kept
 abbrev pub entry_at : State → ℕ → Option Version

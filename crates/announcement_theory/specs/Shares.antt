@@ -7,7 +7,8 @@ use Rattle.announcement_theory.specs.declared.mark.Mark.{Mark}
 use Rattle.announcement_theory.specs.declared.announcement.Announcement.{Announcement}
 use Rattle.announcement_theory.specs.declared.announcement.Announcement.TheVariants as announcement
 use Rattle.announcement_theory.specs.declared.position.Position.{Position}
-use Rattle.announcement_theory.specs.declared.position.Position.TheVariants.{Idle, O1, O2, O3, O4, O5, O6, Open, F1, F2, F3, Offered, C1, C2, C3, C4, C5, C6, C7}
+use Rattle.announcement_theory.specs.declared.position.Position.TheVariants.{Idle, Opening, Open, Offering, Offered, Closing}
+use Rattle.announcement_theory.specs.declared.position.OpenLabel.TheVariants.{O4, O5}
 use Rattle.announcement_theory.specs.declared.seat.Seat.{Seat}
 use Rattle.announcement_theory.specs.State.{State}
 use Rattle.announcement_theory.specs.Tests.{is_mark}
@@ -25,24 +26,13 @@ pub data Past : Type 0 where
 -- what a program may have left behind, by its label
 abbrev pub past_of : Position → Past
 past_of Idle = whole
-past_of (O1 since u) = hopes u
-past_of (O2 since u) = hopes u
-past_of (O3 since u) = hopes u
-past_of (O4 since u round) = lost
-past_of (O5 since u w round) = lost
-past_of (O6 since u round) = hopes u
+past_of (Opening since u (O4 round)) = lost
+past_of (Opening since u (O5 w round)) = lost
+past_of (Opening since u _) = hopes u
 past_of (Open v) = uses v
-past_of (F1 r over i) = uses over
-past_of (F2 r over i x) = uses over
-past_of (F3 r over i) = uses over
+past_of (Offering r over i at) = uses over
 past_of (Offered v) = done v
-past_of (C1 v) = done v
-past_of (C2 v) = done v
-past_of (C3 v) = done v
-past_of (C4 v x) = done v
-past_of (C5 v) = done v
-past_of (C6 v x) = done v
-past_of (C7 v) = done v
+past_of (Closing v at) = done v
 
 -- 1 where slot j lies below i
 abbrev pub below : ℕ → ℕ → ℕ

@@ -1,9 +1,9 @@
 -- The state of the announcement keeper.
-use Rattle.std.specs.Prelude.{ℕ, ◌+◌, ◌*◌, List, ◌∷◌, take, replicate, slice_index_or}
+use Rattle.std.specs.Prelude.{ℕ, ◌+◌, ◌*◌, List, ◌∷◌, take, replicate, slice_index_or, Some, None, Option}
 use Rattle.announcement_theory.specs.declared.mark.Mark.{Mark}
+use Rattle.announcement_theory.specs.declared.slot.Status.{Status}
 use Rattle.announcement_theory.specs.declared.slot.Status.TheVariants.{Usable}
-use Rattle.announcement_theory.specs.declared.slot.Slot.{Slot}
-use Rattle.announcement_theory.specs.declared.slot.Slot.TheVariants as slot
+use Rattle.announcement_theory.specs.declared.slot.Stored.{Stored}
 use Rattle.announcement_theory.specs.declared.announcement.Announcement.{Announcement}
 use Rattle.announcement_theory.specs.declared.announcement.Announcement.TheVariants as announcement
 use Rattle.announcement_theory.specs.declared.position.Position.{Position}
@@ -18,6 +18,10 @@ mark n j = record { serial = n; slot = j }
 abbrev pub seat : Position → Announcement → Seat
 seat at a = record { position = at; announced = a }
 
+-- what a slot holds: the version with serial n and root r, in a status
+abbrev pub stored : ℕ → ℕ → Status → Stored
+stored n r st = record { serial = n; root = r; status = st }
+
 -- nobody's place: idle, and announcing nothing
 abbrev pub unseated : Seat
 unseated = seat Idle announcement.Empty
@@ -27,11 +31,11 @@ pub record State : Type 0 where
   pub programs : ℕ
   pub last : ℕ
   pub current : Mark
-  pub slots : List Slot
+  pub slots : List (Option Stored)
   pub seats : List Seat
 
 -- of arrays that may be longer, the first 3 P + 1 slots and the first P seats
-abbrev pub view : ℕ → ℕ → Mark → List Slot → List Seat → State
+abbrev pub view : ℕ → ℕ → Mark → List (Option Stored) → List Seat → State
 view p l c slots seats = record {
   programs = p;
   last = l;
@@ -41,8 +45,8 @@ view p l c slots seats = record {
 }
 
 -- slot j; beyond the last one nothing is held
-abbrev pub slot_at : State → ℕ → Slot
-slot_at s j = slice_index_or s.slots j slot.Empty
+abbrev pub slot_at : State → ℕ → Option Stored
+slot_at s j = slice_index_or s.slots j None
 
 -- the seat of program q; beyond the last program it is nobody's
 abbrev pub seat_at : State → ℕ → Seat
@@ -62,6 +66,6 @@ fresh p l = record {
   programs = p;
   last = l;
   current = mark 0 0;
-  slots = slot.Filled 0 0 Usable ∷ replicate (3 * p) slot.Empty;
+  slots = Some (stored 0 0 Usable) ∷ replicate (3 * p) None;
   seats = replicate p unseated;
 }

@@ -1,10 +1,9 @@
 -- What the keeper asks of a version, an announcement and a slot.
-use Rattle.std.specs.Prelude.{ℕ, Bool, true, false, ◌&&◌, Some, None, Option, ◌==◌}
+use Rattle.std.specs.Prelude.{ℕ, Bool, true, false, ◌&&◌, Some, None, Option, is_some, ◌==◌}
 use Rattle.announcement_theory.specs.declared.mark.Mark.{Mark}
 use Rattle.announcement_theory.specs.declared.slot.Status.{Status}
 use Rattle.announcement_theory.specs.declared.slot.Status.TheVariants.{Usable, Pending, Frozen}
-use Rattle.announcement_theory.specs.declared.slot.Slot.{Slot}
-use Rattle.announcement_theory.specs.declared.slot.Slot.TheVariants as slot
+use Rattle.announcement_theory.specs.declared.slot.Stored.{Stored}
 use Rattle.announcement_theory.specs.declared.announcement.Announcement.{Announcement}
 use Rattle.announcement_theory.specs.declared.announcement.Announcement.TheVariants as announcement
 use Rattle.announcement_theory.specs.State.{mark}
@@ -44,47 +43,56 @@ version_in (announcement.Plain w) = w
 version_in (announcement.Help w) = w
 
 -- the slot is not empty
-abbrev pub filled : Slot → Bool
-filled slot.Empty = false
-filled (slot.Filled n r st) = true
+abbrev pub filled : Option Stored → Bool
+filled x = is_some x
 
 -- the serial in a slot, 0 in an empty one
-abbrev pub serial_in : Slot → ℕ
-serial_in slot.Empty = 0
-serial_in (slot.Filled n r st) = n
+abbrev pub serial_in : Option Stored → ℕ
+serial_in None = 0
+serial_in (Some x) = x.serial
 
 -- the root in a slot, 0 in an empty one
-abbrev pub root_in : Slot → ℕ
-root_in slot.Empty = 0
-root_in (slot.Filled n r st) = r
+abbrev pub root_in : Option Stored → ℕ
+root_in None = 0
+root_in (Some x) = x.root
 
 -- the slot holds the version v
-abbrev pub holds : Mark → Slot → Bool
-holds v slot.Empty = false
-holds v (slot.Filled n r st) = n == v.serial
+abbrev pub holds : Mark → Option Stored → Bool
+holds v None = false
+holds v (Some x) = x.serial == v.serial
+
+-- the status is usable, pending, frozen
+abbrev pub is_usable : Status → Bool
+is_usable Usable = true
+is_usable Pending = false
+is_usable Frozen = false
+
+abbrev pub is_pending : Status → Bool
+is_pending Usable = false
+is_pending Pending = true
+is_pending Frozen = false
+
+abbrev pub is_frozen : Status → Bool
+is_frozen Usable = false
+is_frozen Pending = false
+is_frozen Frozen = true
 
 -- the slot is usable
-abbrev pub usable : Slot → Bool
-usable slot.Empty = false
-usable (slot.Filled n r Usable) = true
-usable (slot.Filled n r Pending) = false
-usable (slot.Filled n r Frozen) = false
+abbrev pub usable : Option Stored → Bool
+usable None = false
+usable (Some x) = is_usable x.status
 
 -- the slot is pending
-abbrev pub pending : Slot → Bool
-pending slot.Empty = false
-pending (slot.Filled n r Usable) = false
-pending (slot.Filled n r Pending) = true
-pending (slot.Filled n r Frozen) = false
+abbrev pub pending : Option Stored → Bool
+pending None = false
+pending (Some x) = is_pending x.status
 
 -- the slot is frozen
-abbrev pub frozen : Slot → Bool
-frozen slot.Empty = false
-frozen (slot.Filled n r Usable) = false
-frozen (slot.Filled n r Pending) = false
-frozen (slot.Filled n r Frozen) = true
+abbrev pub frozen : Option Stored → Bool
+frozen None = false
+frozen (Some x) = is_frozen x.status
 
 -- the slot with another status
-abbrev pub restated : Status → Slot → Slot
-restated st slot.Empty = slot.Empty
-restated st (slot.Filled n r old) = slot.Filled n r st
+abbrev pub restated : Status → Option Stored → Option Stored
+restated st None = None
+restated st (Some x) = Some (record x { status = st })

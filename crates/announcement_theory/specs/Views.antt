@@ -6,7 +6,10 @@ use Rattle.announcement_theory.specs.declared.announcement.Announcement.TheVaria
 use Rattle.announcement_theory.specs.declared.position.Round.{Round}
 use Rattle.announcement_theory.specs.declared.position.Round.TheVariants.{First, Second}
 use Rattle.announcement_theory.specs.declared.position.Position.{Position}
-use Rattle.announcement_theory.specs.declared.position.Position.TheVariants.{Idle, O1, O2, O3, O4, O5, O6, Open, F1, F2, F3, Offered, C1, C2, C3, C4, C5, C6, C7}
+use Rattle.announcement_theory.specs.declared.position.Position.TheVariants.{Idle, Opening, Open, Offering, Offered, Closing}
+use Rattle.announcement_theory.specs.declared.position.OpenLabel.TheVariants.{O1, O3, O4, O5, O6}
+use Rattle.announcement_theory.specs.declared.position.OfferLabel.TheVariants.{F1, F2, F3}
+use Rattle.announcement_theory.specs.declared.position.CloseLabel.TheVariants.{C1, C2, C3, C4, C5, C6, C7}
 use Rattle.announcement_theory.specs.declared.seat.Seat.{Seat}
 use Rattle.announcement_theory.specs.Tests.{is_mark, announces}
 
@@ -19,24 +22,13 @@ pub data Manner : Type 0 where
 -- how a program announces at each label
 abbrev pub manner : Position → Manner
 manner Idle = silent
-manner (O1 since u) = silent
-manner (O2 since u) = asking u
-manner (O3 since u) = asking u
-manner (O4 since u round) = asking u
-manner (O5 since u w round) = asking u
-manner (O6 since u round) = asking u
+manner (Opening since u O1) = silent
+manner (Opening since u _) = asking u
 manner (Open v) = holding v
-manner (F1 r over i) = holding over
-manner (F2 r over i x) = holding over
-manner (F3 r over i) = holding over
+manner (Offering r over i at) = holding over
 manner (Offered v) = holding v
-manner (C1 v) = holding v
-manner (C2 v) = silent
-manner (C3 v) = silent
-manner (C4 v x) = silent
-manner (C5 v) = silent
-manner (C6 v x) = silent
-manner (C7 v) = silent
+manner (Closing v C1) = holding v
+manner (Closing v _) = silent
 
 -- the announcement is one that goes with the manner
 abbrev pub fits : Manner → Announcement → Bool
@@ -53,46 +45,16 @@ fits (holding u) (announcement.Help v) = false
 -- the version that a program is about
 abbrev pub about : Position → Option Mark
 about Idle = None
-about (O1 since u) = Some u
-about (O2 since u) = Some u
-about (O3 since u) = Some u
-about (O4 since u round) = Some u
-about (O5 since u w round) = Some u
-about (O6 since u round) = Some u
+about (Opening since u at) = Some u
 about (Open v) = Some v
-about (F1 r over i) = Some over
-about (F2 r over i x) = Some over
-about (F3 r over i) = Some over
+about (Offering r over i at) = Some over
 about (Offered v) = Some v
-about (C1 v) = Some v
-about (C2 v) = Some v
-about (C3 v) = Some v
-about (C4 v x) = Some v
-about (C5 v) = Some v
-about (C6 v x) = Some v
-about (C7 v) = Some v
+about (Closing v at) = Some v
 
 -- the version read at O4 and not announced yet
 abbrev pub spare : Position → Option Mark
-spare Idle = None
-spare (O1 since u) = None
-spare (O2 since u) = None
-spare (O3 since u) = None
-spare (O4 since u round) = None
-spare (O5 since u w round) = Some w
-spare (O6 since u round) = None
-spare (Open v) = None
-spare (F1 r over i) = None
-spare (F2 r over i x) = None
-spare (F3 r over i) = None
-spare (Offered v) = None
-spare (C1 v) = None
-spare (C2 v) = None
-spare (C3 v) = None
-spare (C4 v x) = None
-spare (C5 v) = None
-spare (C6 v x) = None
-spare (C7 v) = None
+spare (Opening since u (O5 w round)) = Some w
+spare _ = None
 
 -- a program mentions a version: it is about it, has just read it, or announces it
 abbrev pub Mentions : Seat → Mark → Type 0
@@ -100,25 +62,8 @@ Mentions x v = (about x.position ≡ Some v) ⊎ ((spare x.position ≡ Some v) 
 
 -- the serial that was current when an open began, 0 elsewhere
 abbrev pub since : Position → ℕ
-since Idle = 0
-since (O1 n u) = n
-since (O2 n u) = n
-since (O3 n u) = n
-since (O4 n u round) = n
-since (O5 n u w round) = n
-since (O6 n u round) = n
-since (Open v) = 0
-since (F1 r over i) = 0
-since (F2 r over i x) = 0
-since (F3 r over i) = 0
-since (Offered v) = 0
-since (C1 v) = 0
-since (C2 v) = 0
-since (C3 v) = 0
-since (C4 v x) = 0
-since (C5 v) = 0
-since (C6 v x) = 0
-since (C7 v) = 0
+since (Opening n u at) = n
+since _ = 0
 
 -- how far an open is: about to take the flag off (O3), about to read V (O4), or with a version read from V (w at O5, u at O6)
 pub data Opener : Type 0 where
@@ -129,25 +74,11 @@ pub data Opener : Type 0 where
 
 -- how far the open of a program is
 abbrev pub opener : Position → Opener
-opener Idle = calm
-opener (O1 since u) = calm
-opener (O2 since u) = calm
-opener (O3 since u) = ready
-opener (O4 since u round) = seeking round
-opener (O5 since u w round) = found w round
-opener (O6 since u round) = found u round
-opener (Open v) = calm
-opener (F1 r over i) = calm
-opener (F2 r over i x) = calm
-opener (F3 r over i) = calm
-opener (Offered v) = calm
-opener (C1 v) = calm
-opener (C2 v) = calm
-opener (C3 v) = calm
-opener (C4 v x) = calm
-opener (C5 v) = calm
-opener (C6 v x) = calm
-opener (C7 v) = calm
+opener (Opening since u O3) = ready
+opener (Opening since u (O4 round)) = seeking round
+opener (Opening since u (O5 w round)) = found w round
+opener (Opening since u (O6 round)) = found u round
+opener _ = calm
 
 -- an open that one who offers over the current version v has passed: in round 1, and what it read is v
 abbrev pub settled : Mark → Opener → Bool
@@ -174,25 +105,10 @@ pub data Offerer : Type 0 where
 
 -- how far the offer of a program is, where there are `all` programs: F3 has passed them all
 abbrev pub offerer : ℕ → Position → Offerer
-offerer all Idle = aside
-offerer all (O1 since u) = aside
-offerer all (O2 since u) = aside
-offerer all (O3 since u) = aside
-offerer all (O4 since u round) = aside
-offerer all (O5 since u w round) = aside
-offerer all (O6 since u round) = aside
-offerer all (Open v) = aside
-offerer all (F1 r over i) = seeks over i
-offerer all (F2 r over i x) = owns r over i x
-offerer all (F3 r over i) = owns r over i all
-offerer all (Offered v) = aside
-offerer all (C1 v) = aside
-offerer all (C2 v) = aside
-offerer all (C3 v) = aside
-offerer all (C4 v x) = aside
-offerer all (C5 v) = aside
-offerer all (C6 v x) = aside
-offerer all (C7 v) = aside
+offerer all (Offering r over i F1) = seeks over i
+offerer all (Offering r over i (F2 x)) = owns r over i x
+offerer all (Offering r over i F3) = owns r over i all
+offerer all _ = aside
 
 -- the slot that an offer owns
 abbrev pub owned_in : Offerer → Option ℕ
@@ -221,44 +137,18 @@ pub data Closer : Type 0 where
 
 -- how far the close of a program is, where there are `all` programs: C5 and C7 have passed them all
 abbrev pub closer : ℕ → Position → Closer
-closer all Idle = stays
-closer all (O1 since u) = stays
-closer all (O2 since u) = stays
-closer all (O3 since u) = stays
-closer all (O4 since u round) = stays
-closer all (O5 since u w round) = stays
-closer all (O6 since u round) = stays
-closer all (Open v) = stays
-closer all (F1 r over i) = stays
-closer all (F2 r over i x) = stays
-closer all (F3 r over i) = stays
-closer all (Offered v) = stays
-closer all (C1 v) = stays
-closer all (C2 v) = checks v
-closer all (C3 v) = past v
-closer all (C4 v x) = pends v x
-closer all (C5 v) = pends v all
-closer all (C6 v x) = sweeps v x
-closer all (C7 v) = sweeps v all
+closer all (Closing v C2) = checks v
+closer all (Closing v C3) = past v
+closer all (Closing v (C4 x)) = pends v x
+closer all (Closing v C5) = pends v all
+closer all (Closing v (C6 x)) = sweeps v x
+closer all (Closing v C7) = sweeps v all
+closer all _ = stays
 
 -- slots and programs that a position names are there
 abbrev pub ranged : ℕ → Position → Bool
-ranged all Idle = true
-ranged all (O1 since u) = true
-ranged all (O2 since u) = true
-ranged all (O3 since u) = true
-ranged all (O4 since u round) = true
-ranged all (O5 since u w round) = true
-ranged all (O6 since u round) = true
-ranged all (Open v) = true
-ranged all (F1 r over i) = nat_le i (3 * all)
-ranged all (F2 r over i x) = nat_le i (3 * all) && nat_lt x all
-ranged all (F3 r over i) = nat_le i (3 * all)
-ranged all (Offered v) = true
-ranged all (C1 v) = true
-ranged all (C2 v) = true
-ranged all (C3 v) = true
-ranged all (C4 v x) = nat_lt x all
-ranged all (C5 v) = true
-ranged all (C6 v x) = nat_lt x all
-ranged all (C7 v) = true
+ranged all (Offering r over i (F2 x)) = nat_le i (3 * all) && nat_lt x all
+ranged all (Offering r over i _) = nat_le i (3 * all)
+ranged all (Closing v (C4 x)) = nat_lt x all
+ranged all (Closing v (C6 x)) = nat_lt x all
+ranged all _ = true

@@ -6,9 +6,7 @@
 mod announcement;
 // A version as this keeper names it.
 mod mark;
-// How a label is written.
-mod names;
-// Where a program stands.
+// Where a program stands, and the labels.
 mod position;
 // A program's place: its position and its announcement.
 mod seat;
@@ -17,6 +15,6 @@ mod slot;
 
 pub use announcement::Announcement;
 pub use mark::Mark;
-pub use position::{Label, Position, Round};
+pub use position::{CloseLabel, Label, OfferLabel, OpenLabel, Position, Round};
 pub use seat::Seat;
-pub use slot::{Slot, Status};
+pub use slot::{Status, Stored};

@@ -7,3 +7,11 @@ pub struct Seat {
     pub position: Position,
     pub announced: Announcement,
 }
+
+impl Seat {
+    // Nobody's place: idle, and announcing nothing.
+    pub const IDLE: Seat = Seat {
+        position: Position::Idle,
+        announced: Announcement::Empty,
+    };
+}

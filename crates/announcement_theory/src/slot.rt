@@ -1,3 +1,5 @@
+use std::fmt;
+
 // How far a version in a slot is on its way out.
 #[derive(Clone, Copy, PartialEq, Eq, Debug)]
 pub enum Status {
@@ -9,13 +11,20 @@ pub enum Status {
     Frozen,
 }
 
-// A slot is empty, or holds a version with its root.
+impl fmt::Display for Status {
+    fn fmt<W: fmt::Write>(&self, f: &mut fmt::Formatter<W>) -> fmt::Result {
+        f.write_str(match self {
+            Status::Usable => "usable",
+            Status::Pending => "pending",
+            Status::Frozen => "frozen",
+        })
+    }
+}
+
+// What a slot that is not empty holds: a version's serial, its root, and how far it is on its way out.
 #[derive(Clone, Copy, PartialEq, Eq, Debug)]
-pub enum Slot {
-    Empty,
-    Filled {
-        serial: u32,
-        root: u32,
-        status: Status,
-    },
+pub struct Stored {
+    pub serial: u32,
+    pub root: u32,
+    pub status: Status,
 }

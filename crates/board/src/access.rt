@@ -4,36 +4,43 @@ ghost use Rattle.announcement_theory.specs.Next.{put, fill, go_to, announce, adv
 ghost use Rattle.board.specs.Boards.{state_of};
 
 use crate::board::Board;
-use announcement_theory::{Announcement, Mark, Position, Seat, Slot};
+use announcement_theory::{Announcement, Mark, Position, Seat, Stored};
 
 impl Board {
+    // The slots that count: the first 3 P + 1.
+    pub fn used_slots(&self) -> &[Option<Stored>]
+        ensures { result.now ≡ (state_of self.now).slots }
+    {
+        &self.slots[..3 * self.programs as usize + 1]
+    }
+
+    // The seats that count: the first P.
+    pub fn used_seats(&self) -> &[Seat]
+        ensures { result.now ≡ (state_of self.now).seats }
+    {
+        &self.seats[..self.programs as usize]
+    }
+
     // What slot j holds; there is nothing beyond the last.
-    pub fn slot_at(&self, j: u32) -> Slot
+    pub fn slot_at(&self, j: u32) -> Option<Stored>
         ensures { result ≡ slot_at (state_of self.now) j }
     {
-        if j <= 3 * self.programs {
-            self.slots[j as usize]
-        } else {
-            Slot::Empty
-        }
+        self.used_slots().get(j as usize).copied().flatten()
     }
 
     // Where program q stands, and what it announces.
     pub fn seat_at(&self, q: u32) -> Seat
         ensures { result ≡ seat_at (state_of self.now) q }
     {
-        if q < self.programs {
-            self.seats[q as usize]
-        } else {
-            Seat {
-                position: Position::Idle,
-                announced: Announcement::Empty,
-            }
-        }
+        self.used_seats()
+            .get(q as usize)
+            .copied()
+            .unwrap_or(Seat::IDLE)
     }
 
     // Slot j becomes another.
-    pub(crate) fn fill(&mut self, j: u32, slot: Slot)
+    #[tactic(auto, using(keeper::proofs::Fronts::front_set))]
+    pub(crate) fn fill(&mut self, j: u32, slot: Option<Stored>)
         ensures { state_of self.new ≡ fill (state_of self.old) j slot }
     {
         if j <= 3 * self.programs {
@@ -42,6 +49,7 @@ impl Board {
     }
 
     // Program p takes another seat.
+    #[tactic(auto, using(keeper::proofs::Fronts::front_set))]
     pub(crate) fn put(&mut self, p: u32, seat: Seat)
         ensures { state_of self.new ≡ put (state_of self.old) p seat }
     {

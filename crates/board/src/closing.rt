@@ -1,29 +1,18 @@
-ghost use Rattle.std.specs.Prelude.{◌≡◌, ◌+◌};
-ghost use Rattle.keeper.specs.declared.outcome.Outcome.TheVariants.{HandedOut, Nothing};
-ghost use Rattle.announcement_theory.specs.declared.slot.Slot.TheVariants as slot;
-ghost use Rattle.announcement_theory.specs.declared.position.Position.TheVariants.{C4, C6, Idle};
+ghost use Rattle.keeper.specs.declared.outcome.Outcome.TheVariants.{GoesOn, HandedOut, Nothing};
+ghost use Rattle.announcement_theory.specs.declared.announcement.Announcement.TheVariants as announcement;
+ghost use Rattle.announcement_theory.specs.declared.position.Position.TheVariants.{Closing, Idle};
+ghost use Rattle.announcement_theory.specs.declared.position.CloseLabel.TheVariants.{C2, C4, C6};
 ghost use Rattle.announcement_theory.specs.declared.slot.Status.TheVariants.{Frozen, Pending};
+ghost use Rattle.announcement_theory.specs.State.{seat};
 ghost use Rattle.announcement_theory.specs.Tests.{restated};
-ghost use Rattle.announcement_theory.specs.Next.{fill, go_to, goes, step_at, stepped};
+ghost use Rattle.announcement_theory.specs.Next.{fill, go_to, goes, put, step_at, stepped};
 ghost use Rattle.board.specs.Boards.{state_of};
-ghost use Rattle.board.specs.Steps.{CloseTook, SlotTook, Took, closed_slot};
+ghost use Rattle.board.specs.Steps.{Took};
 
 use crate::board::Board;
-use crate::marks::{frozen, is_asking, is_bearing, is_same};
-use announcement_theory::{Announcement, Mark, Position, Slot, Status};
+use crate::marks::{restated, serial_in};
+use announcement_theory::{Announcement, CloseLabel, Mark, Position, Status, Stored};
 use keeper::Outcome;
-
-// The slot of the version that a closing program is about.
-fn closed_slot(position: Position) -> u32
-    ensures { result ≡ closed_slot position }
-{
-    match position {
-        Position::C1(version) | Position::C2(version) | Position::C3(version) => version.slot,
-        Position::C4 { version, .. } | Position::C6 { version, .. } => version.slot,
-        Position::C5(version) | Position::C7(version) => version.slot,
-        _ => 0,
-    }
-}
 
 impl Board {
     // A close ends with nothing.
@@ -35,145 +24,103 @@ impl Board {
 
     // The version is emptied out of its slot and handed out.
     fn hands_out(&mut self, p: u32, version: Mark) -> Outcome
-        ensures { Took (stepped (go_to (fill (state_of self.old) version.slot slot.Empty) p Idle) (HandedOut version.serial)) (state_of self.new) result }
+        ensures { Took (stepped (go_to (fill (state_of self.old) version.slot None) p Idle) (HandedOut version.serial)) (state_of self.new) result }
     {
-        self.fill(version.slot, Slot::Empty);
+        self.fill(version.slot, None);
         self.ends(p, Position::Idle, Outcome::HandedOut(version.serial))
     }
 
-    // A step of a close.
-    pub(crate) fn close_step(&mut self, p: u32, position: Position) -> Outcome
-        ensures { CloseTook (state_of self.old) p position (state_of self.new) result }
+    // A step of a close, by its label and the status of the slot of its version together.
+    pub(crate) fn close_step(&mut self, p: u32, version: Mark, at: CloseLabel) -> Outcome
+        ensures { Took (step_at (state_of self.old) p (Closing version at)) (state_of self.new) result }
     {
-        match position {
-            Position::C1(v) => self.goes_announcing(p, Position::C2(v), Announcement::Empty),
-            Position::C2(v) if is_same(self.current, v) => self.leaves(p),
-            Position::C2(v) => self.goes(p, Position::C3(v)),
-            Position::C3(_) | Position::C5(_) | Position::C7(_) => self.slot_step(p, position),
-            Position::C4 { version, program } => self.bind_step(p, version, program),
-            Position::C6 { version, program } => self.scan_step(p, version, program),
-            Position::Idle | Position::Open(_) | Position::Offered(_) => Outcome::GoesOn,
-            Position::O1 { .. } | Position::O2 { .. } | Position::O3 { .. } => Outcome::GoesOn,
-            Position::O4 { .. } | Position::O5 { .. } | Position::O6 { .. } => Outcome::GoesOn,
-            Position::F1 { .. } | Position::F2 { .. } | Position::F3 { .. } => Outcome::GoesOn,
+        let slot = self.slot_at(version.slot);
+        let serial = serial_in(slot);
+        match (at, slot.map(|held| held.status)) {
+            (CloseLabel::C1, _) => self.gives_back(p, version),
+            (CloseLabel::C2, _) if self.current == version => self.leaves(p),
+            (CloseLabel::C2, _) => self.closes_at(p, version, CloseLabel::C3),
+            (CloseLabel::C3, Some(Status::Usable)) if serial == version.serial => {
+                self.pends(p, version, slot)
+            }
+            (CloseLabel::C3, Some(Status::Frozen)) if serial == version.serial => {
+                self.scans(p, version)
+            }
+            (CloseLabel::C3, _) => self.leaves(p),
+            (CloseLabel::C4 { program }, _) => self.bind_step(p, version, program),
+            (CloseLabel::C5, _) => self.freezes(p, version, slot),
+            (CloseLabel::C6 { program }, _) => self.scan_step(p, version, program),
+            (CloseLabel::C7, Some(Status::Frozen)) if serial == version.serial => {
+                self.hands_out(p, version)
+            }
+            (CloseLabel::C7, _) => self.leaves(p),
         }
     }
 
-    // A step of a close that looks at the slot of its version: by its label and the slot's status together.
-    fn slot_step(&mut self, p: u32, position: Position) -> Outcome
-        ensures { SlotTook (state_of self.old) p position (state_of self.new) result }
+    // The own announcement is emptied.
+    fn gives_back(&mut self, p: u32, version: Mark) -> Outcome
+        ensures { Took (stepped (put (state_of self.old) p (seat (Closing version C2) announcement.Empty)) GoesOn) (state_of self.new) result }
     {
-        let slot = self.slot_at(closed_slot(position));
-        match (position, slot) {
-            (
-                Position::C3(v),
-                Slot::Filled {
-                    serial,
-                    root,
-                    status: Status::Usable,
-                },
-            ) if serial == v.serial => self.pends(p, v, root),
-            (
-                Position::C3(v),
-                Slot::Filled {
-                    serial,
-                    status: Status::Frozen,
-                    ..
-                },
-            ) if serial == v.serial => self.scans(p, v),
-            (Position::C3(_), _) => self.leaves(p),
-            (Position::C5(v), _) => self.freezes(p, v, slot),
-            (
-                Position::C7(v),
-                Slot::Filled {
-                    serial,
-                    status: Status::Frozen,
-                    ..
-                },
-            ) if serial == v.serial => self.hands_out(p, v),
-            (Position::C7(_), _) => self.leaves(p),
-            (Position::Idle | Position::Open(_) | Position::Offered(_), _) => Outcome::GoesOn,
-            (Position::O1 { .. } | Position::O2 { .. } | Position::O3 { .. }, _) => Outcome::GoesOn,
-            (Position::O4 { .. } | Position::O5 { .. } | Position::O6 { .. }, _) => Outcome::GoesOn,
-            (Position::F1 { .. } | Position::F2 { .. } | Position::F3 { .. }, _) => Outcome::GoesOn,
-            (Position::C1(_) | Position::C2(_), _) => Outcome::GoesOn,
-            (Position::C4 { .. } | Position::C6 { .. }, _) => Outcome::GoesOn,
-        }
+        let at = CloseLabel::C2;
+        self.goes_announcing(p, Position::Closing { version, at }, Announcement::Empty)
     }
 
-    // A usable slot becomes pending, and programs that announced its version are helped.
-    fn pends(&mut self, p: u32, v: Mark, root: u32) -> Outcome
-        ensures { Took (goes (fill (state_of self.old) v.slot (slot.Filled v.serial root Pending)) p (C4 v 0)) (state_of self.new) result }
+    // A close goes on at another label.
+    fn closes_at(&mut self, p: u32, version: Mark, at: CloseLabel) -> Outcome
+        ensures { Took (goes (state_of self.old) p (Closing version at)) (state_of self.new) result }
     {
-        let serial = v.serial;
-        self.fill(
-            v.slot,
-            Slot::Filled {
-                serial,
-                root,
-                status: Status::Pending,
-            },
-        );
-        self.goes(
-            p,
-            Position::C4 {
-                version: v,
-                program: 0,
-            },
-        )
+        self.goes(p, Position::Closing { version, at })
+    }
+
+    // The slot becomes pending, and programs that announced its version are helped.
+    fn pends(&mut self, p: u32, version: Mark, held: Option<Stored>) -> Outcome
+        ensures { Took (goes (fill (state_of self.old) version.slot (restated Pending held)) p (Closing version (C4 0))) (state_of self.new) result }
+    {
+        self.fill(version.slot, restated(held, Status::Pending));
+        self.closes_at(p, version, CloseLabel::C4 { program: 0 })
     }
 
     // Programs are looked for that have the version.
-    fn scans(&mut self, p: u32, v: Mark) -> Outcome
-        ensures { Took (goes (state_of self.old) p (C6 v 0)) (state_of self.new) result }
+    fn scans(&mut self, p: u32, version: Mark) -> Outcome
+        ensures { Took (goes (state_of self.old) p (Closing version (C6 0))) (state_of self.new) result }
     {
-        self.goes(
-            p,
-            Position::C6 {
-                version: v,
-                program: 0,
-            },
-        )
+        self.closes_at(p, version, CloseLabel::C6 { program: 0 })
     }
 
     // The slot is frozen, and programs are looked for that have its version.
-    fn freezes(&mut self, p: u32, v: Mark, held: Slot) -> Outcome
-        ensures { Took (goes (fill (state_of self.old) v.slot (restated Frozen held)) p (C6 v 0)) (state_of self.new) result }
+    fn freezes(&mut self, p: u32, version: Mark, held: Option<Stored>) -> Outcome
+        ensures { Took (goes (fill (state_of self.old) version.slot (restated Frozen held)) p (Closing version (C6 0))) (state_of self.new) result }
     {
-        self.fill(v.slot, frozen(held));
-        self.scans(p, v)
+        self.fill(version.slot, restated(held, Status::Frozen));
+        self.scans(p, version)
     }
 
     // C4: a program that asks for help with the version is bound to it.
     fn bind_step(&mut self, p: u32, version: Mark, program: u32) -> Outcome
-        ensures { Took (step_at (state_of self.old) p (C4 version program)) (state_of self.new) result }
+        ensures { Took (step_at (state_of self.old) p (Closing version (C4 program))) (state_of self.new) result }
     {
-        let position = match program {
-            next if next < self.programs.saturating_sub(1) => Position::C4 {
-                version,
-                program: next + 1,
-            },
-            _ => Position::C5(version),
+        let at = match program {
+            next if next < self.programs.saturating_sub(1) => CloseLabel::C4 { program: next + 1 },
+            _ => CloseLabel::C5,
         };
-        if is_asking(version, self.seat_at(program).announced) {
+        if self.seat_at(program).announced == Announcement::Help(version) {
             self.announce(program, Announcement::Plain(version));
         }
-        self.goes(p, position)
+        self.closes_at(p, version, at)
     }
 
     // C6: where a program has the version, or is bound to it, the close leaves it there.
     fn scan_step(&mut self, p: u32, version: Mark, program: u32) -> Outcome
-        ensures { Took (step_at (state_of self.old) p (C6 version program)) (state_of self.new) result }
+        ensures { Took (step_at (state_of self.old) p (Closing version (C6 program))) (state_of self.new) result }
     {
-        if is_bearing(version, self.seat_at(program).announced) {
+        if self.seat_at(program).announced == Announcement::Plain(version) {
             return self.leaves(p);
         }
         match program {
             next if next < self.programs.saturating_sub(1) => {
-                let program = next + 1;
-                self.goes(p, Position::C6 { version, program })
+                self.closes_at(p, version, CloseLabel::C6 { program: next + 1 })
             }
-            _ => self.goes(p, Position::C7(version)),
+            _ => self.closes_at(p, version, CloseLabel::C7),
         }
     }
 }

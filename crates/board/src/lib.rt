@@ -7,7 +7,7 @@ mod access;
 mod board;
 // The steps of a close.
 mod closing;
-// What a step asks of versions, announcements and slots.
+// What a step reads of an announcement or a slot, and a slot in another status.
 mod marks;
 // The beginnings of the operations, and a step of any of them.
 mod moves;

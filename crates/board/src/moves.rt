@@ -4,7 +4,7 @@ ghost use Rattle.board.specs.Boards.{state_of};
 ghost use Rattle.board.specs.Steps.{Steps, Took};
 
 use crate::board::Board;
-use announcement_theory::{Mark, Position};
+use announcement_theory::{CloseLabel, Mark, OfferLabel, OpenLabel, Position};
 use keeper::Outcome;
 
 // The version that a program is about.
@@ -13,13 +13,10 @@ fn version_had(position: Position) -> Mark
 {
     match position {
         Position::Idle => Mark { serial: 0, slot: 0 },
-        Position::O1 { u, .. } | Position::O2 { u, .. } | Position::O3 { u, .. } => u,
-        Position::O4 { u, .. } | Position::O5 { u, .. } | Position::O6 { u, .. } => u,
+        Position::Opening { u, .. } => u,
+        Position::Offering { over, .. } => over,
         Position::Open(version) | Position::Offered(version) => version,
-        Position::F1 { over, .. } | Position::F2 { over, .. } | Position::F3 { over, .. } => over,
-        Position::C1(version) | Position::C2(version) | Position::C3(version) => version,
-        Position::C4 { version, .. } | Position::C6 { version, .. } => version,
-        Position::C5(version) | Position::C7(version) => version,
+        Position::Closing { version, .. } => version,
     }
 }
 
@@ -30,7 +27,8 @@ impl Board {
     {
         let u = self.current;
         let since = u.serial;
-        self.go_to(p, Position::O1 { since, u });
+        let at = OpenLabel::O1;
+        self.go_to(p, Position::Opening { since, u, at });
     }
 
     // A publish begins at slot 0.
@@ -40,10 +38,11 @@ impl Board {
         let over = version_had(self.seat_at(p).position);
         self.go_to(
             p,
-            Position::F1 {
+            Position::Offering {
                 root,
                 over,
                 slot: 0,
+                at: OfferLabel::F1,
             },
         );
     }
@@ -53,7 +52,8 @@ impl Board {
         ensures { state_of self.new ≡ closes (state_of self.old) p }
     {
         let version = version_had(self.seat_at(p).position);
-        self.go_to(p, Position::C1(version));
+        let at = CloseLabel::C1;
+        self.go_to(p, Position::Closing { version, at });
     }
 
     // One step of the operation that a program is in.
@@ -61,21 +61,16 @@ impl Board {
         requires { self.old.current.serial < 4294967295 }
         ensures { Took (step (state_of self.old) p) (state_of self.new) result }
     {
-        let position = self.seat_at(p).position;
-        match position {
+        match self.seat_at(p).position {
+            Position::Opening { since, u, at } => self.open_step(p, since, u, at),
+            Position::Offering {
+                root,
+                over,
+                slot,
+                at,
+            } => self.offer_step(p, root, over, slot, at),
+            Position::Closing { version, at } => self.close_step(p, version, at),
             Position::Idle | Position::Open(_) | Position::Offered(_) => Outcome::GoesOn,
-            Position::O1 { .. } | Position::O2 { .. } | Position::O3 { .. } => self.open_step(
-                p, position,
-            ),
-            Position::O4 { .. } | Position::O5 { .. } | Position::O6 { .. } => self.open_step(
-                p, position,
-            ),
-            Position::F1 { .. } | Position::F2 { .. } | Position::F3 { .. } => self.offer_step(
-                p, position,
-            ),
-            Position::C1(_) | Position::C2(_) | Position::C3(_) | Position::C4 { .. } =>
-                self.close_step(p, position),
-            Position::C5(_) | Position::C6 { .. } | Position::C7(_) => self.close_step(p, position),
         }
     }
 

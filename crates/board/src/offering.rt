@@ -1,12 +1,13 @@
 ghost use Rattle.std.specs.Prelude.{◌≡◌, ◌+◌, ◌<◌};
-ghost use Rattle.announcement_theory.specs.declared.position.Position.TheVariants.{F1, F2, F3};
-ghost use Rattle.announcement_theory.specs.Next.{go_to, next_or, stales, step_at, stepped};
+ghost use Rattle.announcement_theory.specs.declared.position.Position.TheVariants.{Offering};
+ghost use Rattle.announcement_theory.specs.declared.position.OfferLabel.TheVariants.{F1, F2, F3};
+ghost use Rattle.announcement_theory.specs.Next.{go_to, goes, next_or, stales, step_at, stepped};
 ghost use Rattle.board.specs.Boards.{state_of};
-ghost use Rattle.board.specs.Steps.{OfferTook, Took, accepts};
+ghost use Rattle.board.specs.Steps.{Took, accepts};
 
 use crate::board::Board;
-use crate::marks::{is_flagged, is_same, serial_in};
-use announcement_theory::{Announcement, Mark, Position, Slot, Status};
+use crate::marks::serial_in;
+use announcement_theory::{Announcement, Mark, OfferLabel, Position, Status, Stored};
 use keeper::Outcome;
 
 impl Board {
@@ -22,102 +23,91 @@ impl Board {
     fn gives_up(&mut self, p: u32, over: Mark, slot: u32) -> Outcome
         ensures { Took (stales (state_of self.old) p over slot) (state_of self.new) result }
     {
-        self.fill(slot, Slot::Empty);
+        self.fill(slot, None);
         self.ends(p, Position::Offered(over), Outcome::Stale)
     }
 
-    // A step of an offer, by its label and the slot that it is about.
-    pub(crate) fn offer_step(&mut self, p: u32, position: Position) -> Outcome
+    // A step of an offer.
+    pub(crate) fn offer_step(
+        &mut self,
+        p: u32,
+        root: u32,
+        over: Mark,
+        slot: u32,
+        at: OfferLabel,
+    ) -> Outcome
         requires { self.old.current.serial < 4294967295 }
-        ensures { OfferTook (state_of self.old) p position (state_of self.new) result }
+        ensures { Took (step_at (state_of self.old) p (Offering root over slot at)) (state_of self.new) result }
     {
-        match position {
-            Position::F1 { root, over, slot } => self.search_step(p, root, over, slot),
-            Position::F2 {
-                root,
-                over,
-                slot,
-                program,
-            } => self.help_step(p, root, over, slot, program),
-            Position::F3 { over, slot, .. } if is_same(self.current, over) => self.accepts(
-                p, over, slot,
-            ),
-            Position::F3 { over, slot, .. } => self.gives_up(p, over, slot),
-            Position::Idle | Position::Open(_) | Position::Offered(_) => Outcome::GoesOn,
-            Position::O1 { .. } | Position::O2 { .. } | Position::O3 { .. } => Outcome::GoesOn,
-            Position::O4 { .. } | Position::O5 { .. } | Position::O6 { .. } => Outcome::GoesOn,
-            Position::C1(_) | Position::C2(_) | Position::C3(_) | Position::C4 { .. } =>
-                Outcome::GoesOn,
-            Position::C5(_) | Position::C6 { .. } | Position::C7(_) => Outcome::GoesOn,
+        match at {
+            OfferLabel::F1 => self.search_step(p, root, over, slot),
+            OfferLabel::F2 { program } => self.help_step(p, root, over, slot, program),
+            OfferLabel::F3 if self.current == over => self.accepts(p, over, slot),
+            OfferLabel::F3 => self.gives_up(p, over, slot),
         }
+    }
+
+    // An offer goes on at another label.
+    fn offers_at(&mut self, p: u32, root: u32, over: Mark, slot: u32, at: OfferLabel) -> Outcome
+        ensures { Took (goes (state_of self.old) p (Offering root over slot at)) (state_of self.new) result }
+    {
+        let position = Position::Offering {
+            root,
+            over,
+            slot,
+            at,
+        };
+        self.goes(p, position)
     }
 
     // F1: an empty slot is filled with the version to be; after the last slot the offer gives up.
     fn search_step(&mut self, p: u32, root: u32, over: Mark, slot: u32) -> Outcome
         requires { self.old.current.serial < 4294967295 }
-        ensures { Took (step_at (state_of self.old) p (F1 root over slot)) (state_of self.new) result }
+        ensures { Took (step_at (state_of self.old) p (Offering root over slot F1)) (state_of self.new) result }
     {
         let serial = self.current.serial + 1;
         match self.slot_at(slot) {
-            Slot::Empty => {
+            None => {
                 self.fill(
                     slot,
-                    Slot::Filled {
+                    Some(Stored {
                         serial,
                         root,
                         status: Status::Usable,
-                    },
+                    }),
                 );
-                self.goes(
-                    p,
-                    Position::F2 {
-                        root,
-                        over,
-                        slot,
-                        program: 0,
-                    },
-                )
+                self.offers_at(p, root, over, slot, OfferLabel::F2 { program: 0 })
             }
-            Slot::Filled { .. } if slot < 3 * self.programs => self.goes(
-                p,
-                Position::F1 {
-                    root,
-                    over,
-                    slot: slot + 1,
-                },
-            ),
-            Slot::Filled { .. } => self.ends(p, Position::Offered(over), Outcome::Stale),
+            Some(_) if slot < 3 * self.programs => {
+                self.offers_at(p, root, over, slot + 1, OfferLabel::F1)
+            }
+            Some(_) => self.ends(p, Position::Offered(over), Outcome::Stale),
         }
     }
 
     // The label after a program was helped or passed: the next program, after the last one F3.
-    fn after_help(&self, root: u32, over: Mark, slot: u32, program: u32) -> Position
-        ensures { result ≡ next_or self.now.programs program (F2 root over slot (program + 1)) (F3 root over slot) }
+    fn after_help(&self, program: u32) -> OfferLabel
+        ensures { result ≡ next_or self.now.programs program (F2 (program + 1)) F3 }
     {
         match program {
-            next if next < self.programs.saturating_sub(1) => Position::F2 {
-                root,
-                over,
-                slot,
-                program: next + 1,
-            },
-            _ => Position::F3 { root, over, slot },
+            next if next < self.programs.saturating_sub(1) => OfferLabel::F2 { program: next + 1 },
+            _ => OfferLabel::F3,
         }
     }
 
     // F2: a program that asks for help is bound to the version offered over, while that is current.
     fn help_step(&mut self, p: u32, root: u32, over: Mark, slot: u32, program: u32) -> Outcome
-        ensures { Took (step_at (state_of self.old) p (F2 root over slot program)) (state_of self.new) result }
+        ensures { Took (step_at (state_of self.old) p (Offering root over slot (F2 program))) (state_of self.new) result }
     {
-        let position = self.after_help(root, over, slot, program);
-        if !is_flagged(self.seat_at(program).announced) {
-            return self.goes(p, position);
+        let at = self.after_help(program);
+        if !matches!(self.seat_at(program).announced, Announcement::Help(_)) {
+            return self.offers_at(p, root, over, slot, at);
         }
-        if !is_same(self.current, over) {
+        if self.current != over {
             return self.gives_up(p, over, slot);
         }
         self.announce(program, Announcement::Plain(over));
-        self.goes(p, position)
+        self.offers_at(p, root, over, slot, at)
     }
 
     // F3 over the current version: the version in the slot becomes current.

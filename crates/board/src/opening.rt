@@ -1,14 +1,16 @@
 ghost use Rattle.keeper.specs.declared.outcome.Outcome.TheVariants.{GoesOn};
-ghost use Rattle.announcement_theory.specs.declared.position.Position.TheVariants.{O4};
-ghost use Rattle.announcement_theory.specs.declared.position.Round.TheVariants.{Second};
+ghost use Rattle.announcement_theory.specs.declared.announcement.Announcement.TheVariants as announcement;
+ghost use Rattle.announcement_theory.specs.declared.position.Position.TheVariants.{Opening};
+ghost use Rattle.announcement_theory.specs.declared.position.OpenLabel.TheVariants.{O4};
+ghost use Rattle.announcement_theory.specs.declared.position.Round.TheVariants.{First, Second};
 ghost use Rattle.announcement_theory.specs.State.{seat};
-ghost use Rattle.announcement_theory.specs.Next.{goes, opens_on, put, stepped};
+ghost use Rattle.announcement_theory.specs.Next.{goes, opens_on, put, step_at, stepped};
 ghost use Rattle.board.specs.Boards.{state_of};
-ghost use Rattle.board.specs.Steps.{OpenTook, RetryTook, Took};
+ghost use Rattle.board.specs.Steps.{Took};
 
 use crate::board::Board;
-use crate::marks::{is_asking, is_same, version_in};
-use announcement_theory::{Announcement, Mark, Position, Round, Seat};
+use crate::marks::version_in;
+use announcement_theory::{Announcement, Mark, OpenLabel, Position, Round, Seat};
 use keeper::Outcome;
 
 impl Board {
@@ -55,82 +57,63 @@ impl Board {
         Outcome::Opened(version.serial)
     }
 
-    // A step of an open.
-    pub(crate) fn open_step(&mut self, p: u32, position: Position) -> Outcome
-        ensures { OpenTook (state_of self.old) p position (state_of self.new) result }
+    // An open goes on at another label.
+    fn opens_at(&mut self, p: u32, since: u32, u: Mark, at: OpenLabel) -> Outcome
+        ensures { Took (goes (state_of self.old) p (Opening since u at)) (state_of self.new) result }
     {
-        let announced = self.seat_at(p).announced;
+        self.goes(p, Position::Opening { since, u, at })
+    }
+
+    // An open asks to be helped to u, and goes on at another label.
+    fn asks_at(&mut self, p: u32, since: u32, u: Mark, at: OpenLabel) -> Outcome
+        ensures { Took (stepped (put (state_of self.old) p (seat (Opening since u at) (announcement.Help u))) GoesOn) (state_of self.new) result }
+    {
+        let position = Position::Opening { since, u, at };
+        self.goes_announcing(p, position, Announcement::Help(u))
+    }
+
+    // An open whose version was replaced goes into its first round, and from there into its second.
+    fn first_round(&mut self, p: u32, since: u32, u: Mark) -> Outcome
+        ensures { Took (goes (state_of self.old) p (Opening since u (O4 First))) (state_of self.new) result }
+    {
         let round = Round::First;
-        match position {
-            Position::O1 { since, u } => self.goes_announcing(
-                p,
-                Position::O2 { since, u },
-                Announcement::Help(u),
-            ),
-            Position::O2 { since, u } if is_same(self.current, u) => self.goes(
-                p,
-                Position::O3 { since, u },
-            ),
-            Position::O2 { since, u } => self.goes(p, Position::O4 { since, u, round }),
-            Position::O3 { u, .. } if is_asking(u, announced) => self.opens_on(
-                p,
-                Announcement::Plain(u),
-            ),
-            Position::O3 { .. } => self.opens_on(p, announced),
-            Position::O4 { .. } | Position::O5 { .. } | Position::O6 { .. } => self.retry_step(
-                p, position,
-            ),
-            Position::Idle | Position::Open(_) | Position::Offered(_) => Outcome::GoesOn,
-            Position::F1 { .. } | Position::F2 { .. } | Position::F3 { .. } => Outcome::GoesOn,
-            Position::C1(_) | Position::C2(_) | Position::C3(_) => Outcome::GoesOn,
-            Position::C4 { .. } | Position::C5(_) => Outcome::GoesOn,
-            Position::C6 { .. } | Position::C7(_) => Outcome::GoesOn,
-        }
+        self.opens_at(p, since, u, OpenLabel::O4 { round })
     }
 
-    // A step of an open whose version was replaced before it was confirmed.
-    fn retry_step(&mut self, p: u32, position: Position) -> Outcome
-        ensures { RetryTook (state_of self.old) p position (state_of self.new) result }
-    {
-        let announced = self.seat_at(p).announced;
-        let w = self.current;
-        match position {
-            Position::O4 { since, u, round } => self.goes(p, Position::O5 { since, u, w, round }),
-            Position::O5 { since, u, w, round } if is_asking(u, announced) => {
-                self.goes_announcing(
-                    p,
-                    Position::O6 { since, u: w, round },
-                    Announcement::Help(w),
-                )
-            }
-            Position::O5 { .. } => self.opens_on(p, announced),
-            Position::O6 { since, u, .. } if is_same(w, u) => self.goes(
-                p,
-                Position::O3 { since, u },
-            ),
-            Position::O6 {
-                since,
-                u,
-                round: Round::First,
-            } => self.second_round(p, since, u),
-            Position::O6 {
-                round: Round::Second,
-                ..
-            } => self.opens_on(p, announced),
-            Position::Idle | Position::Open(_) | Position::Offered(_) => Outcome::GoesOn,
-            Position::O1 { .. } | Position::O2 { .. } | Position::O3 { .. } => Outcome::GoesOn,
-            Position::F1 { .. } | Position::F2 { .. } | Position::F3 { .. } => Outcome::GoesOn,
-            Position::C1(_) | Position::C2(_) | Position::C3(_) => Outcome::GoesOn,
-            Position::C4 { .. } | Position::C5(_) => Outcome::GoesOn,
-            Position::C6 { .. } | Position::C7(_) => Outcome::GoesOn,
-        }
-    }
-
-    // An open goes into its second round.
     fn second_round(&mut self, p: u32, since: u32, u: Mark) -> Outcome
-        ensures { Took (goes (state_of self.old) p (O4 since u Second)) (state_of self.new) result }
+        ensures { Took (goes (state_of self.old) p (Opening since u (O4 Second))) (state_of self.new) result }
     {
         let round = Round::Second;
-        self.goes(p, Position::O4 { since, u, round })
+        self.opens_at(p, since, u, OpenLabel::O4 { round })
+    }
+
+    // A step of an open.
+    pub(crate) fn open_step(&mut self, p: u32, since: u32, u: Mark, at: OpenLabel) -> Outcome
+        ensures { Took (step_at (state_of self.old) p (Opening since u at)) (state_of self.new) result }
+    {
+        let announced = self.seat_at(p).announced;
+        let current = self.current;
+        match at {
+            OpenLabel::O1 => self.asks_at(p, since, u, OpenLabel::O2),
+            OpenLabel::O2 if current == u => self.opens_at(p, since, u, OpenLabel::O3),
+            OpenLabel::O2 => self.first_round(p, since, u),
+            OpenLabel::O3 if announced == Announcement::Help(u) => {
+                self.opens_on(p, Announcement::Plain(u))
+            }
+            OpenLabel::O4 { round } => {
+                self.opens_at(p, since, u, OpenLabel::O5 { w: current, round })
+            }
+            OpenLabel::O5 { w, round } if announced == Announcement::Help(u) => {
+                self.asks_at(p, since, w, OpenLabel::O6 { round })
+            }
+            OpenLabel::O6 { .. } if current == u => self.opens_at(p, since, u, OpenLabel::O3),
+            OpenLabel::O6 {
+                round: Round::First,
+            } => self.second_round(p, since, u),
+            // Somebody has helped.
+            OpenLabel::O3 | OpenLabel::O5 { .. } | OpenLabel::O6 { .. } => {
+                self.opens_on(p, announced)
+            }
+        }
     }
 }

@@ -16,7 +16,7 @@ use Rattle.keeper.specs.Stages.{moving}
 use Rattle.keeper.specs.Meaning.{stage_of}
 use Rattle.announcement_theory.specs.declared.announcement.Announcement.{Announcement}
 use Rattle.announcement_theory.specs.declared.position.Position.{Position}
-use Rattle.announcement_theory.specs.declared.position.Position.TheVariants.{Idle as Nowhere, O1, O2, O3, O4, O5, O6, Open, F1, F2, F3, Offered, C1, C2, C3, C4, C5, C6, C7}
+use Rattle.announcement_theory.specs.declared.position.Position.TheVariants.{Idle as Nowhere, Opening, Open, Offering, Offered, Closing}
 use Rattle.announcement_theory.specs.declared.seat.Seat.{Seat}
 use Rattle.announcement_theory.specs.State.{State, unseated, position_at, announced_at}
 use Rattle.announcement_theory.specs.Means as announcement
@@ -48,24 +48,11 @@ nowhere k p f e = go (nat_lt p k.board.programs) refl e
 
 somewhere : (at : Position) (a : Announcement) → moving (stage_from a at) ≡ true → is_some (announcement_label at) ≡ true
 somewhere Nowhere a e = e
-somewhere (O1 since u) a e = refl
-somewhere (O2 since u) a e = refl
-somewhere (O3 since u) a e = refl
-somewhere (O4 since u round) a e = refl
-somewhere (O5 since u w round) a e = refl
-somewhere (O6 since u round) a e = refl
+somewhere (Opening since u at) a e = refl
 somewhere (Open v) a e = e
-somewhere (F1 r over i) a e = refl
-somewhere (F2 r over i x) a e = refl
-somewhere (F3 r over i) a e = refl
+somewhere (Offering r over i at) a e = refl
 somewhere (Offered v) a e = e
-somewhere (C1 v) a e = refl
-somewhere (C2 v) a e = refl
-somewhere (C3 v) a e = refl
-somewhere (C4 v x) a e = refl
-somewhere (C5 v) a e = refl
-somewhere (C6 v x) a e = refl
-somewhere (C7 v) a e = refl
+somewhere (Closing v at) a e = refl
 
 pub placed : (s : State) (p : ℕ) → moving (stage_of (announcement.meaning_of s) p) ≡ true → is_some (announcement_label (position_at s p)) ≡ true
 placed s p e = somewhere (position_at s p) (announced_at s p) (sym (ap moving (stage_at_is s p)) ∙ e)
