@@ -9,7 +9,7 @@ use crate::stages::stage_in;
 use crate::state::Announcing;
 use announcement_theory::{Mark, Seat, Status, Stored};
 use board::Board;
-use keeper::{Fault, Outcome, Refusal, Stage, check_limits, refused};
+use keeper::{Fault, Outcome, Refusal, Stage, check_limits, refused, seated};
 
 impl Announcing {
     // A keeper for so many programs, whose last serial is `last`.
@@ -37,10 +37,7 @@ impl Announcing {
     pub(crate) fn seat(&self, program: u32) -> Result<u32, Fault>
         ensures { Seated self.now.board.programs program result }
     {
-        if program >= self.board.programs {
-            return Err(refused(Refusal::NoProgram));
-        }
-        Ok(program)
+        seated(self.board.programs, program)
     }
 
     pub(crate) fn stage_of(&self, program: u32) -> Stage

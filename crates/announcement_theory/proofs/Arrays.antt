@@ -1,14 +1,10 @@
 -- A new keeper's state, read from arrays that may be longer.
-use Rattle.std.proofs.Common.{◌≡◌, ℕ, zero, suc, ◌*◌, ◌≤◌, List, ◌∷◌, take, replicate, Some, None, Option, refl, ap, ◌∙◌, add-one, arith}
+use Rattle.std.proofs.Common.{◌≡◌, ℕ, ◌*◌, ◌≤◌, List, ◌∷◌, take, replicate, Some, None, Option, ap, ◌∙◌, add-one, arith}
+use Rattle.std.proofs.lemmas.List.{take-replicate}
 use Rattle.announcement_theory.specs.declared.slot.Stored.{Stored}
 use Rattle.announcement_theory.specs.declared.seat.Seat.{Seat}
 use Rattle.announcement_theory.specs.declared.slot.Status.TheVariants.{Usable}
 use Rattle.announcement_theory.specs.State.{mark, unseated, stored, fresh, view}
-
-take-replicate : {A : Type 0} (n m : ℕ) (x : A) → n ≤ m → take n (replicate m x) ≡ replicate n x
-take-replicate zero m x h = refl
-take-replicate (suc n) zero x h = absurd (omega arith)
-take-replicate (suc n) (suc m) x h = ap (λ l. x ∷ l) (take-replicate n m x (omega arith))
 
 -- a new keeper in arrays for 8 programs
 pub view_fresh : (p l : ℕ) → p ≤ 8 → view p l (mark 0 0) (Some (stored 0 0 Usable) ∷ replicate 24 None) (replicate 8 unseated) ≡ fresh p l

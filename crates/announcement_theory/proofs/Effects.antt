@@ -1,6 +1,7 @@
 -- What a change of one seat does to the meaning.
 use Rattle.std.proofs.Common.{◌≡◌, ℕ, ◌+◌, ◌*◌, ◌<◌, ◌≤◌, eqb, List, map, length, get_or, set, Option, sym, refl, ap, ◌∙◌, inl, arith}
-use Rattle.keeper.proofs.Totals.{total_set, map-set}
+use Rattle.std.proofs.lemmas.List.{map-set}
+use Rattle.keeper.proofs.Totals.{total_set}
 use Rattle.announcement_theory.specs.declared.mark.Mark.{Mark}
 use Rattle.announcement_theory.specs.declared.seat.Seat.{Seat}
 use Rattle.announcement_theory.specs.State.{State, unseated, slot_at, seat_at, position_at}

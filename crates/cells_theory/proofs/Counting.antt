@@ -1,9 +1,8 @@
 -- How often cells are named: by one field, by four, by all, and in a list; and what one written cell changes.
-use Rattle.std.proofs.Common.{◌≡◌, ℕ, zero, suc, ◌+◌, ◌*◌, ◌<◌, ◌≤◌, cond, List, [], ◌∷◌, length, get_or, set, sym, refl, ap, ◌∙◌, subst, ⊎_elim, arith}
+use Rattle.std.proofs.Common.{◌≡◌, ℕ, zero, suc, ◌+◌, ◌*◌, ◌<◌, ◌≤◌, cond, List, [], ◌∷◌, length, set, sym, refl, ap, ◌∙◌, subst, ⊎_elim, arith}
 use Rattle.std.proofs.lemmas.List.{get_or-set_same, get_or-set_other, length-set}
 use Rattle.std.proofs.lemmas.Bool.{cases_eq, cases_lt, eq-eqb, ne_eqb}
-use Rattle.keeper.specs.Totals.{total}
-use Rattle.keeper.proofs.Totals.{total_set, total_at}
+use Rattle.keeper.proofs.Totals.{total_set, total_at, total_find}
 use Rattle.cells_theory.specs.declared.cell.Cell.{Cell}
 use Rattle.cells_theory.specs.declared.cell.Field.{Field}
 use Rattle.cells_theory.specs.declared.cell.Field.TheVariants as field
@@ -65,13 +64,6 @@ names_in_find c fs h =
 -- a field of a cell names c, so it is named
 pub naming_at : (cs : List Cell) (c d k : ℕ) → d < length cs → k < 4 → field_at cs d k ≡ field.Cell c → 0 < naming c cs
 naming_at cs c d k l lk e = omega (arith, total_at (names_from c) cs d (cell 0 0 []) l, names_in_at c (fields_at cs d) k lk e)
-
-total_find : {A : Type 0} (f : A → ℕ) (xs : List A) (d : A) → 0 < total f xs → (i : ℕ) × (i < length xs) × (0 < f (get_or xs i d))
-total_find f [] d h = absurd (omega arith)
-total_find f (x ∷ xs) d h =
-    ⊎_elim (λ p. (0, omega arith, p))
-    (λ n. let r = total_find f xs d (omega arith) in (suc r.0, omega (arith, r.1), r.2))
-    (cases_lt 0 (f x))
 
 -- a cell that is named is named by a field of some cell
 pub naming_find : (cs : List Cell) (c : ℕ) → 0 < naming c cs → (d : ℕ) × (d < length cs) × ((k : ℕ) × (k < 4) × (field_at cs d k ≡ field.Cell c))

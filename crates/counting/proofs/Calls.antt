@@ -1,5 +1,5 @@
 -- What each call of a counting keeper answers, from the stage that the code reads.
-use Rattle.std.proofs.Common.{◌≡◌, ℕ, ◌+◌, ◌<◌, ◌≤◌, true, false, cond, get_or, Some, None, Ok, Err, Option, Result, sym, refl, ap, ◌∙◌, subst, ⊎_elim, arith}
+use Rattle.std.proofs.Common.{◌≡◌, ℕ, ◌+◌, ◌<◌, ◌≤◌, true, false, cond, get_or, Some, None, Ok, Err, Option, Result, sym, ap, ◌∙◌, subst, ⊎_elim, arith}
 use Rattle.std.proofs.lemmas.Bool.{cases_lt, lt-ltb, false≢true}
 use Rattle.keeper.specs.declared.stage.Stage.{Stage}
 use Rattle.keeper.specs.declared.stage.Stage.TheVariants.{Idle, Opening, Open, Offering, Offered, Closing}
@@ -12,6 +12,7 @@ use Rattle.keeper.specs.Meaning.{Meaning, stage_of}
 use Rattle.keeper.specs.Effects.{answer, stage_answer, root_answer, root_of}
 use Rattle.keeper.proofs.Faults.{in_range, open_meets, publish_meets, publish_last, publish_allowed, close_meets, step_meets}
 use Rattle.keeper.proofs.Exact.{refused_state, refused_answer, done_state, done_answer}
+use Rattle.keeper.proofs.Stages.{idle_is}
 use Rattle.counting.specs.declared.state.Counting.{Counting}
 use Rattle.counting.specs.State.{State}
 use Rattle.counting.specs.Moves.{stepped, answered, meaning_of, stage_at, put, place, root_in}
@@ -22,14 +23,6 @@ use Rattle.counting.specs.declared.label.Label.{Label}
 use Rattle.counting.specs.Labels.{label_of, label_answer}
 use Rattle.counting.specs.Calls.{opens, open_answer, publishes, publish_answer, closes, close_answer, steps, step_answer}
 use Rattle.counting.specs.Bridge.{good, stage_here, row_here}
-
-is_idle : (st : Stage) → idle st ≡ true → st ≡ Idle
-is_idle Idle e = refl
-is_idle (Opening since bound) e = absurd (false≢true e)
-is_idle (Open s) e = absurd (false≢true e)
-is_idle (Offering r s) e = absurd (false≢true e)
-is_idle (Offered s) e = absurd (false≢true e)
-is_idle (Closing s) e = absurd (false≢true e)
 
 pub closes_has : (st : Stage) (s : ℕ) → has st ≡ Some s → closable st ≡ true → serial_of st ≡ s
 closes_has Idle s e c = absurd (false≢true c)
@@ -51,7 +44,7 @@ module _ (k : Counting) (p : ℕ) (within : p < k.programs) where
       (cases_lt k.current.serial s)
 
   pub open_level : idle (get_or k.stages p Idle) ≡ true → (s : ℕ) → 0 ≡ uses s (stage_at (state_of k) p)
-  open_level e s = sym (ap (uses s) (here Idle (is_idle _ e)))
+  open_level e s = sym (ap (uses s) (here Idle (idle_is _ e)))
 
   pub used_level : (s : ℕ) → has (get_or k.stages p Idle) ≡ Some s → (t : ℕ) → named t (Some s) ≡ uses t (stage_at (state_of k) p)
   used_level s e t = sym (ap (uses t) (stage_here k p within) ∙ ap (named t) (has_engaged (get_or k.stages p Idle) s e))

@@ -6,7 +6,7 @@ use Rattle.std.proofs.lemmas.Bool.{cases_lt, false≢true}
 use Rattle.std.proofs.lemmas.Bool.Decides.{nat_tests}
 use Rattle.keeper.specs.declared.version.Version.{Version}
 use Rattle.keeper.specs.declared.stage.Stage.{Stage}
-use Rattle.keeper.specs.declared.stage.Stage.TheVariants.{Idle, Opening, Open, Offering, Offered, Closing}
+use Rattle.keeper.specs.declared.stage.Stage.TheVariants.{Idle, Opening}
 use Rattle.keeper.specs.Totals.{total}
 use Rattle.keeper.specs.Stages.{uses, engaged, moving}
 use Rattle.keeper.specs.Meaning.{is_serial, version}
@@ -112,9 +112,5 @@ fresh_good p l few limit = record {
 }
 
 pub opens_moving : (st : Stage) → opening st ≡ true → moving st ≡ true
-opens_moving Idle e = e
 opens_moving (Opening since bound) e = e
-opens_moving (Open s) e = e
-opens_moving (Offering r s) e = absurd (false≢true e)
-opens_moving (Offered s) e = e
-opens_moving (Closing s) e = absurd (false≢true e)
+opens_moving st e = absurd cc

@@ -1,7 +1,8 @@
 -- From serials to moments: a serial from the one that was current at a program's call of open up to the present one was current at a
 -- moment between the two.
-use Rattle.std.proofs.Common.{◌≡◌, ℕ, ◌+◌, ◌≤◌, false, cond, ◌⊎◌, List, [], ◌∷◌, Some, None, Ok, Err, Result, sym, refl, ap, ◌∙◌, inl, inr, ⊎_elim, arith}
+use Rattle.std.proofs.Common.{◌≡◌, ℕ, ◌+◌, ◌≤◌, false, cond, ◌⊎◌, List, [], ◌∷◌, Some, Ok, Err, Result, sym, refl, ap, ◌∙◌, inl, inr, ⊎_elim, arith}
 use Rattle.std.proofs.lemmas.Bool.{cases_eq, eq-eqb, ne_eqb}
+use Rattle.std.proofs.lemmas.Option.{none-some}
 use Rattle.keeper.specs.declared.stage.Stage.{Stage}
 use Rattle.keeper.specs.declared.stage.Stage.TheVariants.{Idle, Opening, Open, Offering, Offered, Closing}
 use Rattle.keeper.specs.Stages.{has}
@@ -95,16 +96,13 @@ at_moments leaf (e ∷ h) o = ((λ p s came. let x = o.0 p s came in moment leaf
 pub opened_at_moment : {T : Type 0} {leaf : T} {h : List (Event T)} {w : World T} → Reached leaf h w → Throughout (OpenedAtMoment leaf) h
 opened_at_moment {leaf = leaf} {h = h} r = at_moments leaf h (past r).opened
 
-none_some : (s : ℕ) → None ≡ Some s → ⊥
-none_some s e = cc
-
 opened_has : (st : Stage) (s : ℕ) → opened_at st ≡ Some s → has st ≡ Some s
-opened_has Idle s e = absurd (none_some s e)
-opened_has (Opening a b) s e = absurd (none_some s e)
+opened_has Idle s e = absurd (none-some s e)
+opened_has (Opening a b) s e = absurd (none-some s e)
 opened_has (Open x) s e = e
 opened_has (Offering r x) s e = e
 opened_has (Offered x) s e = e
-opened_has (Closing x) s e = absurd (none_some s e)
+opened_has (Closing x) s e = absurd (none-some s e)
 
 pub as_told : {T : Type 0} {leaf : T} {h : List (Event T)} {w : World T} → Reached leaf h w → AsTold leaf h w
 as_told {w = w} r =

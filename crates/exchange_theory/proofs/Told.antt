@@ -1,12 +1,13 @@
 -- What every run tells of serials and steps, since the keeper means it.
-use Rattle.std.proofs.Common.{◌≡◌, ℕ, zero, suc, ◌<◌, Bool, true, false, cond, ◌&&◌, eqb, ltb, List, [], ◌∷◌, length, get_or, Some, None, Option, Result, sym, refl, ap, ◌∙◌, subst, ⊎_elim, arith}
+use Rattle.keeper.proofs.Stages.{idle_is}
+use Rattle.keeper.proofs.Totals.{total_find}
+use Rattle.std.proofs.Common.{◌≡◌, ℕ, zero, suc, ◌<◌, Bool, true, false, cond, ◌&&◌, eqb, ltb, List, length, Some, None, Option, Result, sym, refl, ap, ◌∙◌, subst, ⊎_elim, arith}
 use Rattle.std.proofs.lemmas.List.{get_or_past}
 use Rattle.std.proofs.lemmas.Bool.{cases_eq, cases_lt, eqb-true, and_parts, ne_eqb}
 use Rattle.keeper.specs.declared.stage.Stage.{Stage}
 use Rattle.keeper.specs.declared.stage.Stage.TheVariants.{Idle, Opening, Open, Offering, Closing}
 use Rattle.keeper.specs.declared.outcome.Outcome.TheVariants.{Opened, Accepted, Stale, HandedOut}
 use Rattle.keeper.specs.declared.fault.Fault.{Fault}
-use Rattle.keeper.specs.Totals.{total}
 use Rattle.keeper.specs.Stages.{has, engaged, uses, named, idle, serial_of}
 use Rattle.keeper.specs.Refusals.{limits}
 use Rattle.keeper.specs.Meaning.{Meaning, Laws, Paced, stage_of, left_of, times}
@@ -29,13 +30,6 @@ use Rattle.exchange_theory.specs.History.{Event, event, Reached, made, after, st
 use Rattle.exchange_theory.specs.Promises.{allowance, OpenedWasCurrent, HandedOutReplaced, StepInTime, PublishDecided}
 use Rattle.exchange_theory.proofs.Accepted.{admitted, by_begun, by_stepped, by_done, by_shown, by_swept, step_from}
 use Rattle.exchange_theory.proofs.Meant.{opened_at, task_at, one, MeantBy, meant_open, meant_publish, meant_close, meant_step, kept_low}
-
-pub total_find : {A : Type 0} (f : A → ℕ) (xs : List A) (d : A) → 0 < total f xs → (i : ℕ) × (i < length xs) × (0 < f (get_or xs i d))
-total_find f [] d h = absurd (omega arith)
-total_find f (x ∷ xs) d h =
-    ⊎_elim (λ p. (0, omega arith, p))
-    (λ n. let r = total_find f xs d (omega arith) in (suc r.0, omega (arith, r.1), r.2))
-    (cases_lt 0 (f x))
 
 -- what the table says of a stage
 pub opens_idle : (st : Stage) → allows st column.Open ≡ true → st ≡ Idle
@@ -65,10 +59,6 @@ engaged_from s (Some b) h = ⊎_elim (λ e. ap Some (sym e)) (λ ne. let z : nam
 pub reached_laws : {T : Type 0} {leaf : T} {h : List (Event T)} {w : World T} → Reached leaf h w → Laws w.keeper
 reached_laws (made ls f l) = l
 reached_laws (after c r p d l) = l
-
-idle_is : (st : Stage) → idle st ≡ true → st ≡ Idle
-idle_is Idle e = refl
-idle_is st e = absurd cc
 
 idle_all : (m : Meaning) (n : ℕ) → idle_below m n ≡ true → (p : ℕ) → p < n → stage_of m p ≡ Idle
 idle_all m zero e p l = absurd (omega arith)

@@ -4,3 +4,4 @@ pub mod Faults
 pub mod Recall
 pub mod Waits
 pub mod Exact
+pub mod Stages
