@@ -3,7 +3,7 @@ ghost use Rattle.announcement_theory.specs.Tests.{version_in, serial_in, restate
 
 use announcement_theory::{Announcement, Mark, Status, Stored};
 
-// The announced version, where there is one.
+// The announced version, where there is one. Whoever asks knows that there is, so an Option would add a case that never comes.
 pub fn version_in(announced: Announcement) -> Mark
     ensures { result ≡ version_in announced }
 {
@@ -14,7 +14,7 @@ pub fn version_in(announced: Announcement) -> Mark
     }
 }
 
-// The serial in a slot, 0 in an empty one.
+// The serial in a slot, 0 in an empty one: no Option, since whoever asks has a version to compare it with, or knows that there is one.
 pub(crate) fn serial_in(slot: Option<Stored>) -> u32
     ensures { result ≡ serial_in slot }
 {

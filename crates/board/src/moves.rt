@@ -1,13 +1,13 @@
-ghost use Rattle.std.specs.Prelude.{◌≡◌, ◌<◌};
-ghost use Rattle.announcement_theory.specs.Next.{opens, publishes, closes, step, version_had};
+ghost use Rattle.std.specs.Prelude.{◌≡◌};
+ghost use Rattle.announcement_theory.specs.Next.{opens, publishes, closes, version_had};
 ghost use Rattle.board.specs.Boards.{state_of};
-ghost use Rattle.board.specs.Steps.{Steps, Took};
+ghost use Rattle.board.specs.Steps.{Steps};
 
 use crate::board::Board;
 use announcement_theory::{CloseLabel, Mark, OfferLabel, OpenLabel, Position};
 use keeper::Outcome;
 
-// The version that a program is about.
+// The version that a program is about. An idle one is about none, and is not asked: an Option would add a case that never comes.
 fn version_had(position: Position) -> Mark
     ensures { result ≡ version_had position }
 {
@@ -56,12 +56,15 @@ impl Board {
         self.go_to(p, Position::Closing { version, at });
     }
 
-    // One step of the operation that a program is in.
-    pub(crate) fn step(&mut self, p: u32) -> Outcome
-        requires { self.old.current.serial < 4294967295 }
-        ensures { Took (step (state_of self.old) p) (state_of self.new) result }
+    // One step of the operation that a program is in; none, and nothing is changed, where no serial is left above the current one.
+    pub fn checked_step(&mut self, p: u32) -> Option<Outcome>
+        ensures { Steps (state_of self.old) p (state_of self.new) result }
     {
-        match self.seat_at(p).position {
+        if self.current.serial == u32::MAX {
+            return None;
+        }
+        // A position is copied, compared and shown, so it is data and no closure.
+        Some(match self.seat_at(p).position {
             Position::Opening { since, u, at } => self.open_step(p, since, u, at),
             Position::Offering {
                 root,
@@ -71,16 +74,6 @@ impl Board {
             } => self.offer_step(p, root, over, slot, at),
             Position::Closing { version, at } => self.close_step(p, version, at),
             Position::Idle | Position::Open(_) | Position::Offered(_) => Outcome::GoesOn,
-        }
-    }
-
-    // One step of the operation that a program is in; none, and nothing is changed, where no serial is left above the current one.
-    pub fn checked_step(&mut self, p: u32) -> Option<Outcome>
-        ensures { Steps (state_of self.old) p (state_of self.new) result }
-    {
-        if self.current.serial == u32::MAX {
-            return None;
-        }
-        Some(self.step(p))
+        })
     }
 }

@@ -7,7 +7,7 @@ ghost use Rattle.cells_theory.specs.Promises.{CountPromises};
 
 use cells_theory::Cell;
 
-// The count of cell c, 0 for a number that is no cell's.
+// The count of cell c. A number that is no cell's is named nowhere: its count is 0.
 fn read_count(cells: &[Cell], c: u32) -> u32
     ensures { result ≡ count_answer cells.now c }
 {

@@ -1,5 +1,8 @@
 // The calls of the memory of cells, over lent slices of cells and leaves. Each is total on any memory, and its contract is exact.
 // Beside that, each promises that a sound memory stays sound.
+//
+// Cells, leaves and heads are parameters of their own: a look borrows cells and leaves to read, letting go and a sweep cells to change,
+// a build both to change. One struct with all three would ask every caller for more than its call needs.
 #![tactic(auto)]
 
 // Filling the first free cell.

@@ -1,4 +1,4 @@
-// What stands for no cell, as a link and as a head.
+// What stands for no cell, as a link and as a head. The memory that the host lends is written so, 32 bits a link: no room for an Option.
 pub const NO_LINK: u32 = 4_294_967_295;
 
 // The highest count that may still be raised.
@@ -12,7 +12,8 @@ pub enum Field {
     Cell(u32),
 }
 
-// A cell: how often it is named, the next cell of its chain, and four fields.
+// A cell: how often it is named, the next cell of its chain, and four fields. Cells name one another by number, and leaves lie beside
+// them, since the host lends its memory as one slice of each.
 #[derive(Clone, Copy, PartialEq, Eq, Debug)]
 pub struct Cell {
     pub count: u32,

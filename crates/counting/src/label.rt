@@ -25,7 +25,7 @@ impl fmt::Display for Label {
 }
 
 // The step of a stage, none where none is left.
-fn label_of(stage: Stage) -> Option<Label>
+pub(crate) fn label_of(stage: Stage) -> Option<Label>
     ensures { result ≡ label_of stage }
 {
     match stage {

@@ -17,14 +17,14 @@ fn holds(row: Option<Row>, serial: u32) -> bool
     row.is_some_and(|row| row.version.serial == serial)
 }
 
-// How many programs a row counts, none in an empty one.
+// How many programs a row counts: 0, a count, in an empty one.
 pub(crate) fn count(row: Option<Row>) -> u32
     ensures { result ≡ count row }
 {
     row.map_or(0, |row| row.users)
 }
 
-// The root in a row, 0 in an empty one.
+// The root in a row, 0 in an empty one: the row asked for holds a version, so an Option would add a case that never comes.
 pub(crate) fn root(row: Option<Row>) -> u32
     ensures { result ≡ root_in row }
 {

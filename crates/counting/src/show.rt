@@ -1,5 +1,5 @@
+use crate::label::label_of;
 use crate::state::Counting;
-use keeper::Enquiry;
 use std::fmt;
 
 // The current serial, each filled row and each program at a step, in rising order.
@@ -15,8 +15,9 @@ impl fmt::Display for Counting {
                 write!(f, " | row {i} {version} users {users}")?;
             }
         }
-        for program in 0..self.programs {
-            if let Ok(Some(label)) = self.label(program) {
+        let stages = &self.stages[..self.programs as usize];
+        for (program, stage) in stages.iter().enumerate() {
+            if let Some(label) = label_of(*stage) {
                 write!(f, " | at {program} {label}")?;
             }
         }

@@ -2,7 +2,7 @@ use crate::label::Label;
 use keeper::{Declared, Fault, Outcome, Stage, Version};
 use std::fmt;
 
-// What a line is answered.
+// What a line is answered. A refusal is one of the answers, and no error: carrying out a call on a desk cannot fail.
 #[derive(Clone, Copy, PartialEq, Eq, Debug)]
 pub enum Answer {
     // A keeper was made.

@@ -42,7 +42,7 @@ impl<K: Keeper> Exchange<K> {
         Ok(Answer::Done)
     }
 
-    // Makes a call that is given as a value.
+    // Makes a call that is given as a value. The calls are a closed set, of which a run is a list, so each is data and no closure.
     fn dispatch<T: Copy>(
         &mut self,
         call: Call<T>,

@@ -1,5 +1,6 @@
 // The exchange: programs publish and read versions of trees of cells, over any keeper of versions and over lent memory. Each call's
-// contract is exact: which answer, which refusal first, and what is changed.
+// contract is exact: which answer, which refusal first, and what is changed. Cells and leaves are parameters of their own, since each call
+// borrows only what it needs: some read both, some change cells alone, some change both.
 #![tactic(auto)]
 
 // What every call on a program is tried for first.

@@ -18,7 +18,7 @@ const ALLOWED: [[bool; 8]; 6] = [
     [NOT, NOT, NOT, YES, NOT, NOT, NOT, NOT],
 ];
 
-// Whether a program at the stage may make the call.
+// Whether a program at the stage may make the call. The rule is a table, and a stage with fields has no number but the one given here.
 pub fn allowed(stage: Stage, column: Column) -> bool
     ensures { result ≡ allows stage column }
 {

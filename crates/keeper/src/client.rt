@@ -85,6 +85,7 @@ pub fn open_among<K: Keeper>(
 {
     keeper.open(program)?;
     let most = keeper.declared().opening;
+    // By number: a turn is a step, and there may be fewer lists of calls than steps.
     for turn in 0..most {
         perform_turn(keeper, program, others, turn);
         let outcome = keeper.step(program)?;

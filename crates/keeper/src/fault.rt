@@ -29,7 +29,7 @@ pub enum Refusal {
 }
 
 impl Refusal {
-    // The number by which users know the refusal.
+    // The number by which users know the refusal; its name says more than a From would.
     pub fn number(self) -> u32
         ensures { result ≡ number_of self }
     {

@@ -38,6 +38,7 @@ fn replay<R: BufRead + Drop>(rt: &HostRuntime, mut input: R) -> io::Result<()> {
     let mut desk = Desk::Nothing;
     let mut tally = Tally::new();
     let mut line: Vec<u8> = Vec::new(rt.alloc());
+    // Until the input ends, with one line in memory: an iterator over lines would make a new one for each.
     for _ in 0..u64::MAX {
         line.clear();
         if input.read_until(b'\n', &mut line)? == 0 {
