@@ -12,8 +12,8 @@ use Rattle.announcement_theory.specs.Longest.{Leads, Reaches, Longest, Ended}
 -- d is declared where there are `all` programs
 pub record Paces (all : ℕ) (d : Declared) : Type 0 where
   -- what is declared is what is left at the first label
-  pub opening : (since : ℕ) (u : Mark) → left_at all (Opening since u O1) ≡ d.opening
-  pub offering : (r : ℕ) (over : Mark) → left_at all (Offering r over 0 F1) ≡ d.offering
+  pub opening : (since : ℕ) (u : Mark) → left_at all (Opening (attempt since u) O1) ≡ d.opening
+  pub offering : (r : ℕ) (over : Mark) → left_at all (Offering (offer r over 0) F1) ≡ d.offering
   pub closing : (v : Mark) → left_at all (Closing v C1) ≡ d.closing
   -- at each label the steps left are one more than the largest number of a label that a step can lead to
   pub leads : Leads

@@ -20,13 +20,15 @@ pub(crate) fn stage_in(seat: Seat) -> Stage
 {
     match seat.position {
         Position::Idle => Stage::Idle,
-        Position::Opening { since, .. } => {
+        Position::Opening { attempt, .. } => {
+            let since = attempt.since;
             let bound = bound_to(seat.announced);
             Stage::Opening { since, bound }
         }
         Position::Open(version) => Stage::Open(version.serial),
-        Position::Offering { root, over, .. } => {
-            let over = over.serial;
+        Position::Offering { offer, .. } => {
+            let root = offer.root;
+            let over = offer.over.serial;
             Stage::Offering { root, over }
         }
         Position::Offered(version) => Stage::Offered(version.serial),

@@ -8,7 +8,7 @@ use Rattle.announcement_theory.specs.declared.position.Round.TheVariants.{First,
 use Rattle.announcement_theory.specs.declared.position.Position.TheVariants.{Offering, Offered}
 use Rattle.announcement_theory.specs.declared.position.OfferLabel.TheVariants.{F3}
 use Rattle.announcement_theory.specs.declared.seat.Seat.{Seat}
-use Rattle.announcement_theory.specs.State.{State, mark, seat, slot_at, seat_at, position_at, announced_at}
+use Rattle.announcement_theory.specs.State.{State, mark, seat, slot_at, seat_at, position_at, announced_at, offer}
 use Rattle.announcement_theory.specs.Tests.{is_mark, serial_in, pending}
 use Rattle.announcement_theory.specs.Next.{put, advance}
 use Rattle.announcement_theory.specs.Views.{Mentions, Opener, calm, ready, seeking, found, opener, settled, steady, offerer, owned, over_in, past}
@@ -29,10 +29,10 @@ settled_steady c d (found w First) e = refl
 settled_steady c d (found w Second) e = false_true e
 
 module _ (s : State) (g : Good s) (p : ℕ) (h : p < s.programs) (r : ℕ) (over : Mark) (i : ℕ)
-    (was : seat_at s p ≡ seat (Offering r over i F3) (announcement.Plain over))
+    (was : seat_at s p ≡ seat (Offering (offer r over i) F3) (announcement.Plain over))
     (current : is_mark over s.current ≡ true) where
   abbrev old : Seat
-  old = seat (Offering r over i F3) (announcement.Plain over)
+  old = seat (Offering (offer r over i) F3) (announcement.Plain over)
 
   abbrev new : Seat
   new = seat (Offered over) (announcement.Plain over)

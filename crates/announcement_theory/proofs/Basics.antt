@@ -89,9 +89,9 @@ pending_frozen (Some x) e = only_pending x.status e
 
 -- the slot of an owner, whatever number of programs it counts with
 pub owned_is : (all : ℕ) (at : Position) → owned_in (offerer all at) ≡ owned at
-owned_is all (Offering r over i F1) = refl
-owned_is all (Offering r over i (F2 x)) = refl
-owned_is all (Offering r over i F3) = refl
+owned_is all (Offering o F1) = refl
+owned_is all (Offering o (F2 x)) = refl
+owned_is all (Offering o F3) = refl
 owned_is all _ = refl
 
 pub owner_owns : (all : ℕ) (at : Position) (r : ℕ) (over : Mark) (i f : ℕ) → offerer all at ≡ owns r over i f → owned at ≡ Some i

@@ -24,7 +24,7 @@ use Rattle.announcement_theory.proofs.Effects.{kept_put}
 
 -- an asking program is opening
 pub asking_stage : (at : Position) (u : Mark) → manner at ≡ asking u → (a : Announcement) → stage_from a at ≡ stage.Opening (since at) (bound a)
-asking_stage (Opening since v at) u e a = refl
+asking_stage (Opening t at) u e a = refl
 asking_stage (Closing v C1) u e a = let z : ◌≡◌ {A = ℕ} 0 1 = cc in absurd (omega arith)
 asking_stage _ u e a = let z : ◌≡◌ {A = ℕ} 0 1 = cc in absurd (omega arith)
 

@@ -13,9 +13,9 @@ use Rattle.announcement_theory.specs.declared.position.OpenLabel.TheVariants.{O1
 use Rattle.announcement_theory.specs.declared.position.OfferLabel.TheVariants.{F1}
 use Rattle.announcement_theory.specs.declared.position.CloseLabel.TheVariants.{C1}
 use Rattle.announcement_theory.specs.declared.seat.Seat.{Seat}
-use Rattle.announcement_theory.specs.State.{State, mark, seat, unseated, slot_at, seat_at, position_at, announced_at}
+use Rattle.announcement_theory.specs.State.{State, mark, seat, unseated, slot_at, seat_at, position_at, announced_at, offer}
 use Rattle.announcement_theory.specs.Tests.{is_mark, filled, serial_in}
-use Rattle.announcement_theory.specs.Views.{manner, fits, since, offerer, owned, closer}
+use Rattle.announcement_theory.specs.Views.{manner, fits, offerer, owned, closer}
 use Rattle.announcement_theory.specs.Shares.{Past, whole, hopes, lost, uses, done, below, used, share_of, owned_below, share, accounted, past_of}
 use Rattle.announcement_theory.specs.Invariant.{waits, Good}
 use Rattle.announcement_theory.proofs.Basics.{false_true, none_some, mark_same, beyond}
@@ -112,10 +112,10 @@ record Uses (at : Position) (a : Announcement) (v : Mark) : Type 0 where
   pub «is» : (c : Mark) (i : ℕ) → share_of c i (past_of at) a ≡ used c i v extra
 
 has_uses : (at : Position) (v : Mark) → fits (manner at) (announcement.Plain v) ≡ true → Uses at (announcement.Plain v) v
-has_uses (Opening since u O1) v e = false_true e
-has_uses (Opening since u _) v e = record { extra = 0; is = λ c i. refl }
+has_uses (Opening t O1) v e = false_true e
+has_uses (Opening t _) v e = record { extra = 0; is = λ c i. refl }
 has_uses (Open u) v e = record { extra = 0; is = λ c i. ap (λ y. used c i y 0) (mark_same u v e) }
-has_uses (Offering r u i at) v e = record { extra = 0; is = λ c i. ap (λ y. used c i y 0) (mark_same u v e) }
+has_uses (Offering o at) v e = record { extra = 0; is = λ c i. ap (λ y. used c i y 0) (mark_same o.over v e) }
 has_uses (Offered u) v e = record { extra = 1; is = λ c i. ap (λ y. used c i y 1) (mark_same u v e) }
 has_uses (Closing u C1) v e = record { extra = 1; is = λ c i. ap (λ y. used c i y 1) (mark_same u v e) }
 has_uses _ v e = false_true e
@@ -196,11 +196,11 @@ module _ (s : State) (g : Good s) (i : ℕ) (full : filled (slot_at s i) ≡ tru
       (cases_lt (accounted s i) (accounted s (i + 1)))
 
 -- over the current version some slot is empty
-pub search_ends : (s : State) → Good s → (p : ℕ) → p < s.programs → (r : ℕ) (over : Mark) (i : ℕ) → seat_at s p ≡ seat (Offering r over i F1)
+pub search_ends : (s : State) → Good s → (p : ℕ) → p < s.programs → (r : ℕ) (over : Mark) (i : ℕ) → seat_at s p ≡ seat (Offering (offer r over i) F1)
     (announcement.Plain over)
     → is_mark over s.current ≡ true → filled (slot_at s i) ≡ true → 3 * s.programs ≤ i → ⊥
 search_ends s g p h r over i e c full end =
-    let t = stay s g p h (seat (Offering r over i F1) (announcement.Plain over)) e in
+    let t = stay s g p h (seat (Offering (offer r over i) F1) (announcement.Plain over)) e in
     let so_far : i ≤ accounted s i = g.searched p over i (ap (λ x. offerer s.programs x.position) e) c in
     let mine : share s.current (i + 1) (seat_at s p) ≤ 2 = subst (λ x. share s.current (i + 1) x ≤ 2) (sym e)
     (omega (arith, used_most s.current (i + 1) over 0 (omega arith))) in

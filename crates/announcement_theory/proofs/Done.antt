@@ -16,7 +16,7 @@ use Rattle.announcement_theory.specs.declared.position.OpenLabel.TheVariants.{O1
 use Rattle.announcement_theory.specs.declared.position.OfferLabel.TheVariants.{F1, F2, F3}
 use Rattle.announcement_theory.specs.declared.position.CloseLabel.TheVariants.{C1, C2, C3, C4, C5, C6, C7}
 use Rattle.announcement_theory.specs.declared.seat.Seat.{Seat}
-use Rattle.announcement_theory.specs.State.{State, mark, seat, stored, slot_at, seat_at, position_at, announced_at}
+use Rattle.announcement_theory.specs.State.{State, mark, seat, stored, slot_at, seat_at, position_at, announced_at, attempt, offer}
 use Rattle.announcement_theory.specs.Tests.{is_mark, asks, bears, flagged, filled, serial_in, holds, usable, frozen, restated}
 use Rattle.announcement_theory.specs.Next.{put, fill, advance, go_to, announce, Stepped, goes, stepped, opens_on, stales, step_at, step, opens, publishes, closes, searches, looks, looks_on, hands, hands_on, again, next_or, version_had}
 use Rattle.announcement_theory.specs.Views.{holding, manner, about, Mentions, since, opener, owns, offerer, owned, closer}
@@ -64,11 +64,11 @@ module _ (s : State) (g : Good s) (p : ℕ) (h : p < s.programs) where
 
   -- beginnings
   pub opens_done : position_at s p ≡ Idle → OpenDone (meaning_of s) p (meaning_of (opens s p))
-  opens_done e = begun s g p h (seat (Opening V.serial V O1) mine) (sym (ap owned e)) (stage.Opening V.serial None)
+  opens_done e = begun s g p h (seat (Opening (attempt V.serial V) O1) mine) (sym (ap owned e)) (stage.Opening V.serial None)
       (ap (λ a. stage.Opening V.serial (bound a)) (empty_at s g p h Idle e refl)) 9 (omega arith)
 
   pub publishes_done : (r : ℕ) (v : Mark) → position_at s p ≡ Open v → PublishDone (meaning_of s) p r (meaning_of (publishes s p r))
-  publishes_done r v e = begun s g p h (seat (Offering r (version_had (position_at s p)) 0 F1) mine) (sym (ap owned e))
+  publishes_done r v e = begun s g p h (seat (Offering (offer r (version_had (position_at s p)) 0) F1) mine) (sym (ap owned e))
       (stage.Offering r (serial_of (stage_of (meaning_of s) p)))
       (ap (stage.Offering r) (ap (λ k. (version_had k).serial) e ∙ sym (ap serial_of (stage_at_is s p) ∙ ap (λ k. serial_of (stage_from mine k)) e)))
       (4 * s.programs + 2) (omega arith)
@@ -113,67 +113,67 @@ module _ (s : State) (g : Good s) (p : ℕ) (h : p < s.programs) where
       there : Mentions (seat_at s p) v
       there = says_mentions s p v a
 
-  o3_done : (n : ℕ) (u : Mark) → position_at s p ≡ Opening n u O3 → (b : Bool) → asks u mine ≡ b
+  o3_done : (n : ℕ) (u : Mark) → position_at s p ≡ Opening (attempt n u) O3 → (b : Bool) → asks u mine ≡ b
       → Does s p (cond b (opens_on s p (announcement.Plain u)) (opens_on s p mine))
   o3_done n u e true f =
       let a = asks_help u mine f in
-      let old = seat (Opening n u O3) (announcement.Help u) in
+      let old = seat (Opening (attempt n u) O3) (announcement.Help u) in
       let new = seat (Open u) (announcement.Plain u) in
-      let was = seat_is s p (Opening n u O3) (announcement.Help u) e a in
+      let was = seat_is s p (Opening (attempt n u) O3) (announcement.Help u) e a in
       let there = asks_mentions s p u a in
       let safe = g.valid p u (ap opener e) a in
       ends_open s g p h s new refl refl refl old was n None u.serial refl refl
       (openable s g p u there safe.0 n (subst (λ k. k ≤ u.serial) (ap since e) (g.since p u there))) tt
       (unmoved s g p h old new was refl)
   o3_done n u e false f =
-      let b = asking_bound u mine (local_at s g p h (Opening n u O3) e) f in
-      ends_bound (Opening n u O3) e refl n refl (λ a. refl) b.0 b.1
+      let b = asking_bound u mine (local_at s g p h (Opening (attempt n u) O3) e) f in
+      ends_bound (Opening (attempt n u) O3) e refl n refl (λ a. refl) b.0 b.1
 
-  o5_done : (n : ℕ) (u w : Mark) (r : Round) → position_at s p ≡ Opening n u (O5 w r) → (b : Bool) → asks u mine ≡ b
-      → Does s p (cond b (stepped (put s p (seat (Opening n w (O6 r)) (announcement.Help w))) GoesOn) (opens_on s p mine))
-  o5_done n u w r e true f = goes_on s g p h (seat (Opening n u (O5 w r)) (announcement.Help u)) (seat (Opening n w (O6 r)) (announcement.Help w))
-      (seat_is s p (Opening n u (O5 w r)) (announcement.Help u) e (asks_help u mine f)) refl refl (in_round_less r 5 2 6 3 (omega arith) (omega arith))
+  o5_done : (n : ℕ) (u w : Mark) (r : Round) → position_at s p ≡ Opening (attempt n u) (O5 w r) → (b : Bool) → asks u mine ≡ b
+      → Does s p (cond b (stepped (put s p (seat (Opening (attempt n w) (O6 r)) (announcement.Help w))) GoesOn) (opens_on s p mine))
+  o5_done n u w r e true f = goes_on s g p h (seat (Opening (attempt n u) (O5 w r)) (announcement.Help u)) (seat (Opening (attempt n w) (O6 r)) (announcement.Help w))
+      (seat_is s p (Opening (attempt n u) (O5 w r)) (announcement.Help u) e (asks_help u mine f)) refl refl (in_round_less r 5 2 6 3 (omega arith) (omega arith))
   o5_done n u w r e false f =
-      let b = asking_bound u mine (local_at s g p h (Opening n u (O5 w r)) e) f in
-      ends_bound (Opening n u (O5 w r)) e refl n refl (λ a. refl) b.0 b.1
+      let b = asking_bound u mine (local_at s g p h (Opening (attempt n u) (O5 w r)) e) f in
+      ends_bound (Opening (attempt n u) (O5 w r)) e refl n refl (λ a. refl) b.0 b.1
 
-  o2_done : (n : ℕ) (u : Mark) → position_at s p ≡ Opening n u O2 → (b : Bool) → is_mark V u ≡ b → Does s p
-      (cond b (goes s p (Opening n u O3)) (goes s p (Opening n u (O4 First))))
-  o2_done n u e true c = on_opening (Opening n u O2) (Opening n u O3) e refl refl refl (omega arith)
-  o2_done n u e false c = on_opening (Opening n u O2) (Opening n u (O4 First)) e refl refl refl (omega arith)
+  o2_done : (n : ℕ) (u : Mark) → position_at s p ≡ Opening (attempt n u) O2 → (b : Bool) → is_mark V u ≡ b → Does s p
+      (cond b (goes s p (Opening (attempt n u) O3)) (goes s p (Opening (attempt n u) (O4 First))))
+  o2_done n u e true c = on_opening (Opening (attempt n u) O2) (Opening (attempt n u) O3) e refl refl refl (omega arith)
+  o2_done n u e false c = on_opening (Opening (attempt n u) O2) (Opening (attempt n u) (O4 First)) e refl refl refl (omega arith)
 
-  again_done : (n : ℕ) (u : Mark) (r : Round) → position_at s p ≡ Opening n u (O6 r) → is_mark V u ≡ false → Does s p (again s p n u r)
-  again_done n u First e c = on_opening (Opening n u (O6 First)) (Opening n u (O4 Second)) e refl refl refl (omega arith)
+  again_done : (n : ℕ) (u : Mark) (r : Round) → position_at s p ≡ Opening (attempt n u) (O6 r) → is_mark V u ≡ false → Does s p (again s p n u r)
+  again_done n u First e c = on_opening (Opening (attempt n u) (O6 First)) (Opening (attempt n u) (O4 Second)) e refl refl refl (omega arith)
   again_done n u Second e c =
-      let b = helped_twice s g p h n u mine (seat_at_is (Opening n u (O6 Second)) e) c in
-      ends_bound (Opening n u (O6 Second)) e refl n refl (λ a. refl) b.0 b.1
+      let b = helped_twice s g p h n u mine (seat_at_is (Opening (attempt n u) (O6 Second)) e) c in
+      ends_bound (Opening (attempt n u) (O6 Second)) e refl n refl (λ a. refl) b.0 b.1
 
-  o6_done : (n : ℕ) (u : Mark) (r : Round) → position_at s p ≡ Opening n u (O6 r) → (b : Bool) → is_mark V u ≡ b → Does s p
-      (cond b (goes s p (Opening n u O3)) (again s p n u r))
-  o6_done n u r e true c = on_opening (Opening n u (O6 r)) (Opening n u O3) e refl refl refl (in_round_one r 5 2 (omega arith) (omega arith))
+  o6_done : (n : ℕ) (u : Mark) (r : Round) → position_at s p ≡ Opening (attempt n u) (O6 r) → (b : Bool) → is_mark V u ≡ b → Does s p
+      (cond b (goes s p (Opening (attempt n u) O3)) (again s p n u r))
+  o6_done n u r e true c = on_opening (Opening (attempt n u) (O6 r)) (Opening (attempt n u) O3) e refl refl refl (in_round_one r 5 2 (omega arith) (omega arith))
   o6_done n u r e false c = again_done n u r e c
 
   -- over a version with the current serial, V is that version
   over_old : (over : Mark) → mine ≡ announcement.Plain over → is_mark V over ≡ false → over.serial ≡ V.serial → ⊥
   over_old over a c e = clash (is_mark V over) (same_mark V over (sym (current_only s g p over (says_mentions s p over a) (g.held p over a) e))) c
 
-  f1_done : (r : ℕ) (over : Mark) (i : ℕ) → position_at s p ≡ Offering r over i F1 → (x : Option Stored) → slot_at s i ≡ x → Does s p (searches s p r over i x)
+  f1_done : (r : ℕ) (over : Mark) (i : ℕ) → position_at s p ≡ Offering (offer r over i) F1 → (x : Option Stored) → slot_at s i ≡ x → Does s p (searches s p r over i x)
   f1_done r over i e = go
     where
       a : mine ≡ announcement.Plain over
-      a = plain_at s g p h (Offering r over i F1) e over refl
+      a = plain_at s g p h (Offering (offer r over i) F1) e over refl
 
-      is : seat_at s p ≡ seat (Offering r over i F1) (announcement.Plain over)
-      is = seat_is s p (Offering r over i F1) (announcement.Plain over) e a
+      is : seat_at s p ≡ seat (Offering (offer r over i) F1) (announcement.Plain over)
+      is = seat_is s p (Offering (offer r over i) F1) (announcement.Plain over) e a
 
       near : i ≤ 3 * s.programs
-      near = leb-true i (3 * s.programs) (ranged_at s g p h (Offering r over i F1) e)
+      near = leb-true i (3 * s.programs) (ranged_at s g p h (Offering (offer r over i) F1) e)
 
       go : (x : Option Stored) → slot_at s i ≡ x → Does s p (searches s p r over i x)
       go None f =
           let y = Some (stored (V.serial + 1) r Usable) in
-          let new = seat (Offering r over i (F2 0)) mine in
-          continues s g p h (fill s i y) new refl refl refl (seat (Offering r over i F1) mine) (seat_at_is (Offering r over i F1) e) refl (omega (arith, near))
+          let new = seat (Offering (offer r over i) (F2 0)) mine in
+          continues s g p h (fill s i y) new refl refl refl (seat (Offering (offer r over i) F1) mine) (seat_at_is (Offering (offer r over i) F1) e) refl (omega (arith, near))
           (fills s g p h i y new (omega (arith, near, g.sized.2))
           (λ (k : i ≡ V.slot). empty_usable (slot_at s V.slot) (ap (slot_at s) (sym k) ∙ f) g.current.1)
           (ap owned e) refl f)
@@ -182,14 +182,14 @@ module _ (s : State) (g : Good s) (p : ℕ) (h : p < s.programs) where
           full : filled (slot_at s i) ≡ true
           full = ap filled f
 
-          test : (b : Bool) → ltb i (3 * s.programs) ≡ b → Does s p (cond b (goes s p (Offering r over (i + 1) F1)) (stepped (go_to s p (Offered over)) Stale))
-          test true l = goes_on s g p h (seat (Offering r over i F1) mine) (seat (Offering r over (i + 1) F1) mine) (seat_at_is (Offering r over i F1) e) refl refl
+          test : (b : Bool) → ltb i (3 * s.programs) ≡ b → Does s p (cond b (goes s p (Offering (offer r over (i + 1)) F1)) (stepped (go_to s p (Offered over)) Stale))
+          test true l = goes_on s g p h (seat (Offering (offer r over i) F1) mine) (seat (Offering (offer r over (i + 1)) F1) mine) (seat_at_is (Offering (offer r over i) F1) e) refl refl
               (omega (arith, near))
-          test false l = gives_up s g p h s (seat (Offered over) mine) refl refl refl (seat (Offering r over i F1) mine)
-              (seat_at_is (Offering r over i F1) e) r over refl refl
+          test false l = gives_up s g p h s (seat (Offered over) mine) refl refl refl (seat (Offering (offer r over i) F1) mine)
+              (seat_at_is (Offering (offer r over i) F1) e) r over refl refl
               (λ k. search_ends s g p h r over i is
               (same_mark over V (current_only s g p over (says_mentions s p over a) (g.held p over a) k)) full (ltb-false i (3 * s.programs) l))
-              (unmoved s g p h (seat (Offering r over i F1) mine) (seat (Offered over) mine) (seat_at_is (Offering r over i F1) e) refl)
+              (unmoved s g p h (seat (Offering (offer r over i) F1) mine) (seat (Offered over) mine) (seat_at_is (Offering (offer r over i) F1) e) refl)
 
   -- an offer gives up, over an old version
   stale_done : (at : Position) (r : ℕ) (over : Mark) (i f : ℕ) → position_at s p ≡ at → offerer s.programs at ≡ owns r over i f
@@ -210,16 +210,16 @@ module _ (s : State) (g : Good s) (p : ℕ) (h : p < s.programs) where
           (λ (b : length s.slots ≤ i). empty_usable (slot_at s i) (get_or_past s.slots i None b) u)
           (cases_lt i (length s.slots))
 
-  f3_done : (r : ℕ) (over : Mark) (i : ℕ) → position_at s p ≡ Offering r over i F3 → (b : Bool) → is_mark V over ≡ b
+  f3_done : (r : ℕ) (over : Mark) (i : ℕ) → position_at s p ≡ Offering (offer r over i) F3 → (b : Bool) → is_mark V over ≡ b
       → Does s p (cond b
       (stepped (go_to (advance s (mark (serial_in (slot_at s i)) i)) p (Offered over)) (Accepted (serial_in (slot_at s i))))
       (stales s p over i))
   f3_done r over i e true c =
-      let a = plain_at s g p h (Offering r over i F3) e over refl in
+      let a = plain_at s g p h (Offering (offer r over i) F3) e over refl in
       subst (λ y. Does s p (stepped (put (advance s (mark (serial_in (slot_at s i)) i)) p (seat (Offered over) y)) (Accepted (serial_in (slot_at s i)))))
       (sym a)
-      (accepts s g p h r over i (seat_is s p (Offering r over i F3) (announcement.Plain over) e a) (mark_flip over V ∙ c))
-  f3_done r over i e false c = stale_done (Offering r over i F3) r over i s.programs e refl refl (λ a. refl) c
+      (accepts s g p h r over i (seat_is s p (Offering (offer r over i) F3) (announcement.Plain over) e a) (mark_flip over V ∙ c))
+  f3_done r over i e false c = stale_done (Offering (offer r over i) F3) r over i s.programs e refl refl (λ a. refl) c
 
   -- the next program, or the next label after the last one
   next_done : {A : Type 0} (f : A → Position) (at : Position) (next last : A) (x : ℕ) → position_at s p ≡ at → owned (f next) ≡ owned at → owned (f last) ≡ owned at
@@ -259,38 +259,38 @@ module _ (s : State) (g : Good s) (p : ℕ) (h : p < s.programs) where
   asked_range : (x : ℕ) (u : Mark) → announced_at s x ≡ announcement.Help u → (since (position_at s x) ≤ u.serial) × (u.serial ≤ V.serial)
   asked_range x u a = (g.since x u (asks_mentions s x u a), (g.seen x u (asks_mentions s x u a)).0)
 
-  f2_done : (r : ℕ) (over : Mark) (i x : ℕ) → position_at s p ≡ Offering r over i (F2 x) → (b c : Bool) → flagged (announced_at s x) ≡ b → is_mark V over ≡ c
+  f2_done : (r : ℕ) (over : Mark) (i x : ℕ) → position_at s p ≡ Offering (offer r over i) (F2 x) → (b c : Bool) → flagged (announced_at s x) ≡ b → is_mark V over ≡ c
       → Does s p (cond b
       (cond c
-      (goes (announce s x (announcement.Plain over)) p (Offering r over i (next_or s.programs x (F2 (x + 1)) F3)))
+      (goes (announce s x (announcement.Plain over)) p (Offering (offer r over i) (next_or s.programs x (F2 (x + 1)) F3)))
       (stales s p over i))
-      (goes s p (Offering r over i (next_or s.programs x (F2 (x + 1)) F3))))
+      (goes s p (Offering (offer r over i) (next_or s.programs x (F2 (x + 1)) F3))))
   f2_done r over i x e = go
     where
       a : mine ≡ announcement.Plain over
-      a = plain_at s g p h (Offering r over i (F2 x)) e over refl
+      a = plain_at s g p h (Offering (offer r over i) (F2 x)) e over refl
 
       below_all : x < s.programs
-      below_all = ltb-true x s.programs (and_parts (leb i (3 * s.programs)) (ltb x s.programs) (ranged_at s g p h (Offering r over i (F2 x)) e)).1
+      below_all = ltb-true x s.programs (and_parts (leb i (3 * s.programs)) (ltb x s.programs) (ranged_at s g p h (Offering (offer r over i) (F2 x)) e)).1
 
       go : (b c : Bool) → flagged (announced_at s x) ≡ b → is_mark V over ≡ c
           → Does s p (cond b
           (cond c
-          (goes (announce s x (announcement.Plain over)) p (Offering r over i (next_or s.programs x (F2 (x + 1)) F3)))
+          (goes (announce s x (announcement.Plain over)) p (Offering (offer r over i) (next_or s.programs x (F2 (x + 1)) F3)))
           (stales s p over i))
-          (goes s p (Offering r over i (next_or s.programs x (F2 (x + 1)) F3))))
+          (goes s p (Offering (offer r over i) (next_or s.programs x (F2 (x + 1)) F3))))
       go true true f c =
           let asked = flag_on (announced_at s x) f in
           let range = asked_range x asked.0 asked.1 in
           let is = mark_same V over c in
           let serial_is : V.serial ≡ over.serial = ap (λ v. v.serial) is in
-          bind_done (Offering r over i) (Offering r over i (F2 x)) (F2 (x + 1)) F3 x asked.0 over e below_all
+          bind_done (Offering (offer r over i)) (Offering (offer r over i) (F2 x)) (F2 (x + 1)) F3 x asked.0 over e below_all
           (λ (k : x ≡ p). clash (flagged (announced_at s x)) f (ap (λ q. flagged (announced_at s q)) k ∙ ap flagged a))
           asked.1 (omega (arith, range.0, range.1)) (omega arith)
           (mentioned_times s g p over (says_mentions s p over a) (g.held p over a))
           refl refl (λ b. refl) (λ b. refl) (λ l. omega arith) (λ l. omega (arith, below_all)) (ltb (x + 1) s.programs) refl
-      go true false f c = stale_done (Offering r over i (F2 x)) r over i x e refl refl (λ b. refl) c
-      go false c f d = next_done (Offering r over i) (Offering r over i (F2 x)) (F2 (x + 1)) F3 x e refl refl refl refl
+      go true false f c = stale_done (Offering (offer r over i) (F2 x)) r over i x e refl refl (λ b. refl) c
+      go false c f d = next_done (Offering (offer r over i)) (Offering (offer r over i) (F2 x)) (F2 (x + 1)) F3 x e refl refl refl refl
           (λ l. omega arith) (λ l. omega (arith, below_all)) (ltb (x + 1) s.programs) refl
 
   c4_done : (v : Mark) (x : ℕ) → position_at s p ≡ Closing v (C4 x) → (b : Bool) → asks v (announced_at s x) ≡ b
@@ -393,16 +393,16 @@ module _ (s : State) (g : Good s) (p : ℕ) (h : p < s.programs) where
       go (Some x) f = go_on x.serial x.root x.status f
 
   done_at : (at : Position) → position_at s p ≡ at → moving (stage_from mine at) ≡ true → Does s p (step_at s p at)
-  done_at (Opening n u O1) e m = goes_on s g p h (seat (Opening n u O1) announcement.Empty) (seat (Opening n u O2) (announcement.Help u))
-      (seat_is s p (Opening n u O1) announcement.Empty e (empty_at s g p h (Opening n u O1) e refl)) refl refl (omega arith)
-  done_at (Opening n u O2) e m = o2_done n u e (is_mark V u) refl
-  done_at (Opening n u O3) e m = o3_done n u e (asks u mine) refl
-  done_at (Opening n u (O4 r)) e m = on_opening (Opening n u (O4 r)) (Opening n u (O5 V r)) e refl refl refl (in_round_less r 6 3 7 4 (omega arith) (omega arith))
-  done_at (Opening n u (O5 w r)) e m = o5_done n u w r e (asks u mine) refl
-  done_at (Opening n u (O6 r)) e m = o6_done n u r e (is_mark V u) refl
-  done_at (Offering r over i F1) e m = f1_done r over i e (slot_at s i) refl
-  done_at (Offering r over i (F2 x)) e m = f2_done r over i x e (flagged (announced_at s x)) (is_mark V over) refl refl
-  done_at (Offering r over i F3) e m = f3_done r over i e (is_mark V over) refl
+  done_at (Opening t O1) e m = goes_on s g p h (seat (Opening t O1) announcement.Empty) (seat (Opening t O2) (announcement.Help t.u))
+      (seat_is s p (Opening t O1) announcement.Empty e (empty_at s g p h (Opening t O1) e refl)) refl refl (omega arith)
+  done_at (Opening t O2) e m = o2_done t.since t.u e (is_mark V t.u) refl
+  done_at (Opening t O3) e m = o3_done t.since t.u e (asks t.u mine) refl
+  done_at (Opening t (O4 r)) e m = on_opening (Opening t (O4 r)) (Opening t (O5 V r)) e refl refl refl (in_round_less r 6 3 7 4 (omega arith) (omega arith))
+  done_at (Opening t (O5 w r)) e m = o5_done t.since t.u w r e (asks t.u mine) refl
+  done_at (Opening t (O6 r)) e m = o6_done t.since t.u r e (is_mark V t.u) refl
+  done_at (Offering o F1) e m = f1_done o.root o.over o.slot e (slot_at s o.slot) refl
+  done_at (Offering o (F2 x)) e m = f2_done o.root o.over o.slot x e (flagged (announced_at s x)) (is_mark V o.over) refl refl
+  done_at (Offering o F3) e m = f3_done o.root o.over o.slot e (is_mark V o.over) refl
   done_at (Closing v C1) e m = goes_on s g p h (seat (Closing v C1) mine) (seat (Closing v C2) announcement.Empty) (seat_at_is (Closing v C1) e) refl refl (omega arith)
   done_at (Closing v C2) e m = c2_done v e (is_mark V v) refl
   done_at (Closing v C3) e m = c3_done v e (slot_at s v.slot) refl

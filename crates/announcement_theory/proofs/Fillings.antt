@@ -11,7 +11,7 @@ use Rattle.announcement_theory.specs.declared.announcement.Announcement.TheVaria
 use Rattle.announcement_theory.specs.declared.position.Position.TheVariants.{Offering, Offered}
 use Rattle.announcement_theory.specs.declared.position.OfferLabel.TheVariants.{F1, F2, F3}
 use Rattle.announcement_theory.specs.declared.seat.Seat.{Seat}
-use Rattle.announcement_theory.specs.State.{State, mark, seat, stored, slot_at, seat_at, position_at, announced_at}
+use Rattle.announcement_theory.specs.State.{State, mark, seat, stored, slot_at, seat_at, position_at, announced_at, offer}
 use Rattle.announcement_theory.specs.Tests.{is_mark, announces, filled, serial_in, root_in, holds, usable}
 use Rattle.announcement_theory.specs.Next.{put, fill}
 use Rattle.announcement_theory.specs.Views.{about, Mentions, owns, offerer, owned, over_in, Closer, stays, pends, sweeps, closer}
@@ -49,7 +49,7 @@ closes_mentions s q v c e f = inl (closing_about s.programs (position_at s q) v 
 
 -- slot i was empty, and becomes the slot of p, with the next serial
 module _ (s : State) (g : Good s) (p : ℕ) (h : p < s.programs) (r : ℕ) (over : Mark) (i : ℕ)
-    (was : seat_at s p ≡ seat (Offering r over i F1) (announcement.Plain over)) (vacant : slot_at s i ≡ None) where
+    (was : seat_at s p ≡ seat (Offering (offer r over i) F1) (announcement.Plain over)) (vacant : slot_at s i ≡ None) where
   abbrev y : Option Stored
   y = Some (stored (s.current.serial + 1) r Usable)
 
@@ -64,7 +64,7 @@ module _ (s : State) (g : Good s) (p : ℕ) (h : p < s.programs) (r : ℕ) (over
   vacant_at v e t = empty_holds v (slot_at s v.slot) (ap (slot_at s) e ∙ vacant) t
 
   in_range : i < length s.slots
-  in_range = omega (arith, g.sized.2, leb-true i (3 * s.programs) (stay s g p h (seat (Offering r over i F1) (announcement.Plain over)) was).ranged)
+  in_range = omega (arith, g.sized.2, leb-true i (3 * s.programs) (stay s g p h (seat (Offering (offer r over i) F1) (announcement.Plain over)) was).ranged)
 
   -- no one mentions the next serial
   unknown : (q : ℕ) (v : Mark) → Mentions (seat_at s q) v → eqb (s.current.serial + 1) v.serial ≡ true → ⊥
@@ -86,10 +86,10 @@ module _ (s : State) (g : Good s) (p : ℕ) (h : p < s.programs) (r : ℕ) (over
       let ne : j ≡ i → ⊥ = λ (e : j ≡ i). k.2 (ap {B = Option ℕ} Some (sym e)) in
       (ne, (subst (λ x. filled x ≡ true) (slot_other s i y in_range j ne) k.0, k.1, λ e. none_some j e))
 
-  pub f1_put_good : Good (put after p (seat (Offering r over i (F2 0)) (announcement.Plain over)))
+  pub f1_put_good : Good (put after p (seat (Offering (offer r over i) (F2 0)) (announcement.Plain over)))
   f1_put_good =
-      let old = seat (Offering r over i F1) (announcement.Plain over) in
-      let new = seat (Offering r over i (F2 0)) (announcement.Plain over) in
+      let old = seat (Offering (offer r over i) F1) (announcement.Plain over) in
+      let new = seat (Offering (offer r over i) (F2 0)) (announcement.Plain over) in
       let t = stay s g p h old was in
       let mine : Sound after p 0 over = record {
         from = omega arith;
@@ -249,12 +249,12 @@ module _ (s : State) (g : Good s) (p : ℕ) (h : p < s.programs) (over : Mark) (
           let m : below i k ≤ 1 = grind (arith, nat_tests) in
           omega arith
 
-pub f2_stale_good : (s : State) → Good s → (p : ℕ) → p < s.programs → (r : ℕ) (over : Mark) (i x : ℕ) → seat_at s p ≡ seat (Offering r over i (F2 x))
+pub f2_stale_good : (s : State) → Good s → (p : ℕ) → p < s.programs → (r : ℕ) (over : Mark) (i x : ℕ) → seat_at s p ≡ seat (Offering (offer r over i) (F2 x))
     (announcement.Plain over)
     → is_mark over s.current ≡ false → Good (put (fill s i None) p (seat (Offered over) (announcement.Plain over)))
-f2_stale_good s g p h r over i x e n = stale_good s g p h over i (seat (Offering r over i (F2 x)) (announcement.Plain over)) e r x refl n refl refl
+f2_stale_good s g p h r over i x e n = stale_good s g p h over i (seat (Offering (offer r over i) (F2 x)) (announcement.Plain over)) e r x refl n refl refl
 
-pub f3_stale_good : (s : State) → Good s → (p : ℕ) → p < s.programs → (r : ℕ) (over : Mark) (i : ℕ) → seat_at s p ≡ seat (Offering r over i F3)
+pub f3_stale_good : (s : State) → Good s → (p : ℕ) → p < s.programs → (r : ℕ) (over : Mark) (i : ℕ) → seat_at s p ≡ seat (Offering (offer r over i) F3)
     (announcement.Plain over)
     → is_mark over s.current ≡ false → Good (put (fill s i None) p (seat (Offered over) (announcement.Plain over)))
-f3_stale_good s g p h r over i e n = stale_good s g p h over i (seat (Offering r over i F3) (announcement.Plain over)) e r s.programs refl n refl refl
+f3_stale_good s g p h r over i e n = stale_good s g p h over i (seat (Offering (offer r over i) F3) (announcement.Plain over)) e r s.programs refl n refl refl

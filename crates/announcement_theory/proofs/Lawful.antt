@@ -17,7 +17,7 @@ use Rattle.announcement_theory.specs.declared.position.CloseLabel.TheVariants.{C
 use Rattle.announcement_theory.specs.declared.seat.Seat.{Seat}
 use Rattle.announcement_theory.specs.State.{State, mark, unseated, slot_at, seat_at, position_at, announced_at}
 use Rattle.announcement_theory.specs.Tests.{version_in, serial_in, root_in}
-use Rattle.announcement_theory.specs.Views.{holding, manner, fits, Mentions, since, closer, ranged}
+use Rattle.announcement_theory.specs.Views.{holding, manner, fits, Mentions, closer, ranged}
 use Rattle.announcement_theory.specs.Invariant.{Holds, Kept, waits, Good}
 use Rattle.announcement_theory.proofs.Basics.{false_true, none_some, mark_same, holds_serial, holding_plain, beyond}
 use Rattle.announcement_theory.proofs.Roles.{closed}
@@ -54,18 +54,18 @@ held_plain : (a : Announcement) (v : Mark) (n : ℕ) → fits (holding v) a ≡ 
 held_plain a v n l e = record { version = v; says = holding_plain v a l; serial = same_Some v.serial n e }
 
 pub has_plain : (at : Position) (a : Announcement) (n : ℕ) → fits (manner at) a ≡ true → has (stage_from a at) ≡ Some n → Plainly a n
-has_plain (Opening since u at) a n l e = bound_plain a n e
+has_plain (Opening t at) a n l e = bound_plain a n e
 has_plain (Open v) a n l e = held_plain a v n l e
-has_plain (Offering r v i at) a n l e = held_plain a v n l e
+has_plain (Offering o at) a n l e = held_plain a o.over n l e
 has_plain (Offered v) a n l e = held_plain a v n l e
 has_plain _ a n l e = none_some n e
 
 -- a program that announces v without help has it, or is closing it
 plain_engaged : (at : Position) (v : Mark) → fits (manner at) (announcement.Plain v) ≡ true → engaged (stage_from (announcement.Plain v) at) ≡ Some
     v.serial
-plain_engaged (Opening since u at) v e = refl
+plain_engaged (Opening t at) v e = refl
 plain_engaged (Open u) v e = ap (λ (y : Mark). Some y.serial) (mark_same u v e)
-plain_engaged (Offering r u i at) v e = ap (λ (y : Mark). Some y.serial) (mark_same u v e)
+plain_engaged (Offering o at) v e = ap (λ (y : Mark). Some y.serial) (mark_same o.over v e)
 plain_engaged (Offered u) v e = ap (λ (y : Mark). Some y.serial) (mark_same u v e)
 plain_engaged (Closing u C1) v e = ap (λ (y : Mark). Some y.serial) (mark_same u v e)
 plain_engaged _ v e = false_true e
@@ -83,12 +83,12 @@ in_round_some Second a b h k = k
 -- steps are left exactly where the stage says so
 pub paced_at : (all : ℕ) (at : Position) (a : Announcement) → ranged all at ≡ true → Paced (stage_from a at) (left_at all at)
 paced_at all Idle a l = refl
-paced_at all (Opening since u (O4 round)) a l = in_round_some round 7 4 (omega arith) (omega arith)
-paced_at all (Opening since u (O5 w round)) a l = in_round_some round 6 3 (omega arith) (omega arith)
-paced_at all (Opening since u (O6 round)) a l = in_round_some round 5 2 (omega arith) (omega arith)
+paced_at all (Opening t (O4 round)) a l = in_round_some round 7 4 (omega arith) (omega arith)
+paced_at all (Opening t (O5 w round)) a l = in_round_some round 6 3 (omega arith) (omega arith)
+paced_at all (Opening t (O6 round)) a l = in_round_some round 5 2 (omega arith) (omega arith)
 paced_at all (Open v) a l = refl
-paced_at all (Offering r v i F1) a l = omega (arith, leb-true i (3 * all) l)
-paced_at all (Offering r v i (F2 x)) a l = omega (arith, ltb-true x all (and_parts (leb i (3 * all)) (ltb x all) l).1)
+paced_at all (Offering o F1) a l = omega (arith, leb-true o.slot (3 * all) l)
+paced_at all (Offering o (F2 x)) a l = omega (arith, ltb-true x all (and_parts (leb o.slot (3 * all)) (ltb x all) l).1)
 paced_at all (Offered v) a l = refl
 paced_at all (Closing v (C4 x)) a l = omega (arith, ltb-true x all l)
 paced_at all (Closing v (C6 x)) a l = omega (arith, ltb-true x all l)

@@ -15,7 +15,7 @@ use Rattle.announcement_theory.specs.declared.position.OpenLabel.TheVariants.{O1
 use Rattle.announcement_theory.specs.declared.position.OfferLabel.TheVariants.{F1, F2, F3}
 use Rattle.announcement_theory.specs.declared.position.CloseLabel.TheVariants.{C1, C2, C3, C4, C5, C6, C7}
 use Rattle.announcement_theory.specs.declared.seat.Seat.{Seat}
-use Rattle.announcement_theory.specs.State.{State, mark, seat, stored, slot_at, position_at, announced_at}
+use Rattle.announcement_theory.specs.State.{State, mark, seat, stored, slot_at, position_at, announced_at, offer, attempt}
 use Rattle.announcement_theory.specs.Tests.{is_mark, asks, bears, flagged, version_in, serial_in, restated}
 use Rattle.announcement_theory.specs.Next.{put, fill, advance, go_to, announce, Stepped, goes, stepped, opens_on, stales, step_at, step, searches, looks, looks_on, hands, hands_on, again, next_or}
 use Rattle.announcement_theory.proofs.Basics.{false_true, true_false, mark_self, at_same}
@@ -38,26 +38,26 @@ next_left left all x a b next last h less more e = go (ltb (x + 1) all) refl
     go false t = omega (arith, more (ltb-false (x + 1) all t))
 
 search_left : (all r : ℕ) (over : Mark) (i : ℕ) → i ≤ 3 * all → (b : Bool) → ltb i (3 * all) ≡ b
-    → 4 * all + 2 - i ≡ 1 + max (all + 1 - 0) (largest (map (left_at all) (cond b (Offering r over (i + 1) F1 ∷ []) [])))
+    → 4 * all + 2 - i ≡ 1 + max (all + 1 - 0) (largest (map (left_at all) (cond b (Offering (offer r over (i + 1)) F1 ∷ []) [])))
 search_left all r over i h true e = omega (arith, ltb-true i (3 * all) e)
 search_left all r over i h false e = omega (arith, ltb-false i (3 * all) e)
 
 pub longest : Longest
 longest all c Idle l m = false_true m
-longest all c (Opening n u O1) l m = refl
-longest all c (Opening n u O2) l m = refl
-longest all c (Opening n u O3) l m = refl
-longest all c (Opening n u (O4 First)) l m = refl
-longest all c (Opening n u (O4 Second)) l m = refl
-longest all c (Opening n u (O5 w First)) l m = refl
-longest all c (Opening n u (O5 w Second)) l m = refl
-longest all c (Opening n u (O6 r)) l m = round_left all n c u r
+longest all c (Opening t O1) l m = refl
+longest all c (Opening t O2) l m = refl
+longest all c (Opening t O3) l m = refl
+longest all c (Opening t (O4 First)) l m = refl
+longest all c (Opening t (O4 Second)) l m = refl
+longest all c (Opening t (O5 w First)) l m = refl
+longest all c (Opening t (O5 w Second)) l m = refl
+longest all c (Opening t (O6 r)) l m = round_left all t.since c t.u r
 longest all c (Open v) l m = false_true m
-longest all c (Offering r over i F1) l m = search_left all r over i (leb-true i (3 * all) l) (ltb i (3 * all)) refl
-longest all c (Offering r over i (F2 x)) l m =
-    let h : x < all = ltb-true x all (and_parts (leb i (3 * all)) (ltb x all) l).1 in
-    next_left (λ at. left_at all (Offering r over i at)) all x (all - x) (all + 1 - x) (F2 (x + 1)) F3 h (λ k. omega arith) (λ k. omega arith) (omega arith)
-longest all c (Offering r over i F3) l m = refl
+longest all c (Offering o F1) l m = search_left all o.root o.over o.slot (leb-true o.slot (3 * all) l) (ltb o.slot (3 * all)) refl
+longest all c (Offering o (F2 x)) l m =
+    let h : x < all = ltb-true x all (and_parts (leb o.slot (3 * all)) (ltb x all) l).1 in
+    next_left (λ at. left_at all (Offering o at)) all x (all - x) (all + 1 - x) (F2 (x + 1)) F3 h (λ k. omega arith) (λ k. omega arith) (omega arith)
+longest all c (Offering o F3) l m = refl
 longest all c (Offered v) l m = false_true m
 longest all c (Closing v (C4 x)) l m =
     let h : x < all = ltb-true x all l in
@@ -98,35 +98,35 @@ module _ (s : State) (p : ℕ) (h : p < length s.seats) where
   there t x k = ap (λ y. y.position) (at_same t p x k)
 
   into_again : (n : ℕ) (u : Mark) (r : Round) → Into (again s p n u r) (rounds n u r)
-  into_again n u First e = inr (inl (there s (seat (Opening n u (O4 Second)) (announced_at s p)) h))
+  into_again n u First e = inr (inl (there s (seat (Opening (attempt n u) (O4 Second)) (announced_at s p)) h))
   into_again n u Second e = absurd (opened_ends (version_in (announced_at s p)).serial e)
 
-  into_o6 : (n : ℕ) (u : Mark) (r : Round) (b : Bool) → Into (cond b (goes s p (Opening n u O3)) (again s p n u r)) (rounds n u r)
-  into_o6 n u First true e = inl (there s (seat (Opening n u O3) (announced_at s p)) h)
-  into_o6 n u Second true e = inl (there s (seat (Opening n u O3) (announced_at s p)) h)
+  into_o6 : (n : ℕ) (u : Mark) (r : Round) (b : Bool) → Into (cond b (goes s p (Opening (attempt n u) O3)) (again s p n u r)) (rounds n u r)
+  into_o6 n u First true e = inl (there s (seat (Opening (attempt n u) O3) (announced_at s p)) h)
+  into_o6 n u Second true e = inl (there s (seat (Opening (attempt n u) O3) (announced_at s p)) h)
   into_o6 n u r false e = into_again n u r e
 
-  into_o2 : (n : ℕ) (u : Mark) (b : Bool) → Into (cond b (goes s p (Opening n u O3)) (goes s p (Opening n u (O4 First)))) (Opening n u O3 ∷ Opening n u (O4 First) ∷ [])
-  into_o2 n u true e = inl (there s (seat (Opening n u O3) (announced_at s p)) h)
-  into_o2 n u false e = inr (inl (there s (seat (Opening n u (O4 First)) (announced_at s p)) h))
+  into_o2 : (n : ℕ) (u : Mark) (b : Bool) → Into (cond b (goes s p (Opening (attempt n u) O3)) (goes s p (Opening (attempt n u) (O4 First)))) (Opening (attempt n u) O3 ∷ Opening (attempt n u) (O4 First) ∷ [])
+  into_o2 n u true e = inl (there s (seat (Opening (attempt n u) O3) (announced_at s p)) h)
+  into_o2 n u false e = inr (inl (there s (seat (Opening (attempt n u) (O4 First)) (announced_at s p)) h))
 
   into_o3 : (u : Mark) (b : Bool) → Into (cond b (opens_on s p (announcement.Plain u)) (opens_on s p (announced_at s p))) []
   into_o3 u true e = opened_ends u.serial e
   into_o3 u false e = opened_ends (version_in (announced_at s p)).serial e
 
   into_o5 : (n : ℕ) (w : Mark) (r : Round) (b : Bool)
-      → Into (cond b (stepped (put s p (seat (Opening n w (O6 r)) (announcement.Help w))) GoesOn) (opens_on s p (announced_at s p))) (Opening n w (O6 r) ∷ [])
-  into_o5 n w r true e = inl (there s (seat (Opening n w (O6 r)) (announcement.Help w)) h)
+      → Into (cond b (stepped (put s p (seat (Opening (attempt n w) (O6 r)) (announcement.Help w))) GoesOn) (opens_on s p (announced_at s p))) (Opening (attempt n w) (O6 r) ∷ [])
+  into_o5 n w r true e = inl (there s (seat (Opening (attempt n w) (O6 r)) (announcement.Help w)) h)
   into_o5 n w r false e = absurd (opened_ends (version_in (announced_at s p)).serial e)
 
   into_f1 : (r : ℕ) (over : Mark) (i : ℕ) (x : Option Stored) → Into (searches s p r over i x)
-      (Offering r over i (F2 0) ∷ cond (ltb i (3 * s.programs)) (Offering r over (i + 1) F1 ∷ []) [])
-  into_f1 r over i None e = inl (there (fill s i (Some (stored (s.current.serial + 1) r Usable))) (seat (Offering r over i (F2 0)) (announced_at s p)) h)
+      (Offering (offer r over i) (F2 0) ∷ cond (ltb i (3 * s.programs)) (Offering (offer r over (i + 1)) F1 ∷ []) [])
+  into_f1 r over i None e = inl (there (fill s i (Some (stored (s.current.serial + 1) r Usable))) (seat (Offering (offer r over i) (F2 0)) (announced_at s p)) h)
   into_f1 r over i (Some x) f = go (ltb i (3 * s.programs)) f
     where
-      go : (b : Bool) → Into (cond b (goes s p (Offering r over (i + 1) F1)) (stepped (go_to s p (Offered over)) Stale))
-          (Offering r over i (F2 0) ∷ cond b (Offering r over (i + 1) F1 ∷ []) [])
-      go true e = inr (inl (there s (seat (Offering r over (i + 1) F1) (announced_at s p)) h))
+      go : (b : Bool) → Into (cond b (goes s p (Offering (offer r over (i + 1)) F1)) (stepped (go_to s p (Offered over)) Stale))
+          (Offering (offer r over i) (F2 0) ∷ cond b (Offering (offer r over (i + 1)) F1 ∷ []) [])
+      go true e = inr (inl (there s (seat (Offering (offer r over (i + 1)) F1) (announced_at s p)) h))
       go false e = absurd (stale_ends e)
 
   into_f2 : (over : Mark) (i x : ℕ) (next : Position) (b c : Bool)
@@ -191,16 +191,16 @@ module _ (s : State) (p : ℕ) (h : p < length s.seats) where
   into_c7 v (Some x) e = into_c7_on v x.serial x.status e
 
   into : (at : Position) → is_some (label_of at) ≡ true → Into (step_at s p at) (successors s.programs s.current at)
-  into (Opening n u O1) m = λ e. inl (there s (seat (Opening n u O2) (announcement.Help u)) h)
-  into (Opening n u O2) m = into_o2 n u (is_mark s.current u)
-  into (Opening n u O3) m = into_o3 u (asks u (announced_at s p))
-  into (Opening n u (O4 r)) m = λ e. inl (there s (seat (Opening n u (O5 s.current r)) (announced_at s p)) h)
-  into (Opening n u (O5 w r)) m = into_o5 n w r (asks u (announced_at s p))
-  into (Opening n u (O6 r)) m = into_o6 n u r (is_mark s.current u)
-  into (Offering r over i F1) m = into_f1 r over i (slot_at s i)
-  into (Offering r over i (F2 x)) m = into_f2 over i x (Offering r over i (next_or s.programs x (F2 (x + 1)) F3)) (flagged (announced_at s x))
-      (is_mark s.current over)
-  into (Offering r over i F3) m = into_f3 over i (is_mark s.current over)
+  into (Opening t O1) m = λ e. inl (there s (seat (Opening t O2) (announcement.Help t.u)) h)
+  into (Opening t O2) m = into_o2 t.since t.u (is_mark s.current t.u)
+  into (Opening t O3) m = into_o3 t.u (asks t.u (announced_at s p))
+  into (Opening t (O4 r)) m = λ e. inl (there s (seat (Opening t (O5 s.current r)) (announced_at s p)) h)
+  into (Opening t (O5 w r)) m = into_o5 t.since w r (asks t.u (announced_at s p))
+  into (Opening t (O6 r)) m = into_o6 t.since t.u r (is_mark s.current t.u)
+  into (Offering o F1) m = into_f1 o.root o.over o.slot (slot_at s o.slot)
+  into (Offering o (F2 x)) m = into_f2 o.over o.slot x (Offering o (next_or s.programs x (F2 (x + 1)) F3)) (flagged (announced_at s x))
+      (is_mark s.current o.over)
+  into (Offering o F3) m = into_f3 o.over o.slot (is_mark s.current o.over)
   into (Closing v C1) m = λ e. inl (there s (seat (Closing v C2) announcement.Empty) h)
   into (Closing v C2) m = into_c2 v (is_mark s.current v)
   into (Closing v C3) m = into_c3 v (slot_at s v.slot)
@@ -251,61 +251,61 @@ either_to {all = all} {at = at} way also to (inl e) = subst (Way all at) (sym e)
 either_to way also to (inr m) = only_to also to m
 
 module _ (all : ℕ) where
-  way_o2_o3 : (n : ℕ) (u : Mark) → Way all (Opening n u O2) (Opening n u O3)
+  way_o2_o3 : (n : ℕ) (u : Mark) → Way all (Opening (attempt n u) O2) (Opening (attempt n u) O3)
   way_o2_o3 n u =
-      let s = lone all u [] (seat (Opening n u O2) announcement.Empty) in
-      way all (Opening n u O2) (Opening n u O3) s refl refl (goes s 0 (Opening n u O3))
-      (ap (λ b. cond b (goes s 0 (Opening n u O3)) (goes s 0 (Opening n u (O4 First)))) (mark_self u)) refl refl
+      let s = lone all u [] (seat (Opening (attempt n u) O2) announcement.Empty) in
+      way all (Opening (attempt n u) O2) (Opening (attempt n u) O3) s refl refl (goes s 0 (Opening (attempt n u) O3))
+      (ap (λ b. cond b (goes s 0 (Opening (attempt n u) O3)) (goes s 0 (Opening (attempt n u) (O4 First)))) (mark_self u)) refl refl
 
-  way_o2_o4 : (n : ℕ) (u : Mark) → Way all (Opening n u O2) (Opening n u (O4 First))
+  way_o2_o4 : (n : ℕ) (u : Mark) → Way all (Opening (attempt n u) O2) (Opening (attempt n u) (O4 First))
   way_o2_o4 n u =
-      let s = lone all (other u) [] (seat (Opening n u O2) announcement.Empty) in
-      way all (Opening n u O2) (Opening n u (O4 First)) s refl refl (goes s 0 (Opening n u (O4 First)))
-      (ap (λ b. cond b (goes s 0 (Opening n u O3)) (goes s 0 (Opening n u (O4 First)))) (other_is u)) refl refl
+      let s = lone all (other u) [] (seat (Opening (attempt n u) O2) announcement.Empty) in
+      way all (Opening (attempt n u) O2) (Opening (attempt n u) (O4 First)) s refl refl (goes s 0 (Opening (attempt n u) (O4 First)))
+      (ap (λ b. cond b (goes s 0 (Opening (attempt n u) O3)) (goes s 0 (Opening (attempt n u) (O4 First)))) (other_is u)) refl refl
 
-  way_o5 : (n : ℕ) (u w : Mark) (r : Round) → Way all (Opening n u (O5 w r)) (Opening n w (O6 r))
+  way_o5 : (n : ℕ) (u w : Mark) (r : Round) → Way all (Opening (attempt n u) (O5 w r)) (Opening (attempt n w) (O6 r))
   way_o5 n u w r =
-      let s = lone all u [] (seat (Opening n u (O5 w r)) (announcement.Help u)) in
-      let on : Stepped = stepped (put s 0 (seat (Opening n w (O6 r)) (announcement.Help w))) GoesOn in
-      way all (Opening n u (O5 w r)) (Opening n w (O6 r)) s refl refl on (ap (λ b. cond b on (opens_on s 0 (announcement.Help u))) (mark_self u)) refl refl
+      let s = lone all u [] (seat (Opening (attempt n u) (O5 w r)) (announcement.Help u)) in
+      let on : Stepped = stepped (put s 0 (seat (Opening (attempt n w) (O6 r)) (announcement.Help w))) GoesOn in
+      way all (Opening (attempt n u) (O5 w r)) (Opening (attempt n w) (O6 r)) s refl refl on (ap (λ b. cond b on (opens_on s 0 (announcement.Help u))) (mark_self u)) refl refl
 
-  way_o6_o3 : (n : ℕ) (u : Mark) (r : Round) → Way all (Opening n u (O6 r)) (Opening n u O3)
+  way_o6_o3 : (n : ℕ) (u : Mark) (r : Round) → Way all (Opening (attempt n u) (O6 r)) (Opening (attempt n u) O3)
   way_o6_o3 n u r =
-      let s = lone all u [] (seat (Opening n u (O6 r)) announcement.Empty) in
-      way all (Opening n u (O6 r)) (Opening n u O3) s refl refl (goes s 0 (Opening n u O3)) (ap (λ b. cond b (goes s 0 (Opening n u O3)) (again s 0 n u r)) (mark_self u)) refl refl
+      let s = lone all u [] (seat (Opening (attempt n u) (O6 r)) announcement.Empty) in
+      way all (Opening (attempt n u) (O6 r)) (Opening (attempt n u) O3) s refl refl (goes s 0 (Opening (attempt n u) O3)) (ap (λ b. cond b (goes s 0 (Opening (attempt n u) O3)) (again s 0 n u r)) (mark_self u)) refl refl
 
-  way_o6_o4 : (n : ℕ) (u : Mark) → Way all (Opening n u (O6 First)) (Opening n u (O4 Second))
+  way_o6_o4 : (n : ℕ) (u : Mark) → Way all (Opening (attempt n u) (O6 First)) (Opening (attempt n u) (O4 Second))
   way_o6_o4 n u =
-      let s = lone all (other u) [] (seat (Opening n u (O6 First)) announcement.Empty) in
-      way all (Opening n u (O6 First)) (Opening n u (O4 Second)) s refl refl (goes s 0 (Opening n u (O4 Second)))
-      (ap (λ b. cond b (goes s 0 (Opening n u O3)) (again s 0 n u First)) (other_is u)) refl refl
+      let s = lone all (other u) [] (seat (Opening (attempt n u) (O6 First)) announcement.Empty) in
+      way all (Opening (attempt n u) (O6 First)) (Opening (attempt n u) (O4 Second)) s refl refl (goes s 0 (Opening (attempt n u) (O4 Second)))
+      (ap (λ b. cond b (goes s 0 (Opening (attempt n u) O3)) (again s 0 n u First)) (other_is u)) refl refl
 
-  way_rounds : (n : ℕ) (u : Mark) (r : Round) (to : Position) → Among to (rounds n u r) → Way all (Opening n u (O6 r)) to
+  way_rounds : (n : ℕ) (u : Mark) (r : Round) (to : Position) → Among to (rounds n u r) → Way all (Opening (attempt n u) (O6 r)) to
   way_rounds n u First to m = either_to (way_o6_o3 n u First) (way_o6_o4 n u) to m
   way_rounds n u Second to m = only_to (way_o6_o3 n u Second) to m
 
-  way_f1_f1 : (r : ℕ) (over : Mark) (i : ℕ) → ltb i (3 * all) ≡ true → Way all (Offering r over i F1) (Offering r over (i + 1) F1)
+  way_f1_f1 : (r : ℕ) (over : Mark) (i : ℕ) → ltb i (3 * all) ≡ true → Way all (Offering (offer r over i) F1) (Offering (offer r over (i + 1)) F1)
   way_f1_f1 r over i l =
       let full = Some (stored 0 0 Usable) in
-      let s = lone all over (replicate (suc i) full) (seat (Offering r over i F1) announcement.Empty) in
-      way all (Offering r over i F1) (Offering r over (i + 1) F1) s refl refl (goes s 0 (Offering r over (i + 1) F1))
+      let s = lone all over (replicate (suc i) full) (seat (Offering (offer r over i) F1) announcement.Empty) in
+      way all (Offering (offer r over i) F1) (Offering (offer r over (i + 1)) F1) s refl refl (goes s 0 (Offering (offer r over (i + 1)) F1))
       (ap (searches s 0 r over i) (get_or-replicate (suc i) i full None (omega arith))
-      ∙ ap (λ b. cond b (goes s 0 (Offering r over (i + 1) F1)) (stepped (go_to s 0 (Offered over)) Stale)) l) refl refl
+      ∙ ap (λ b. cond b (goes s 0 (Offering (offer r over (i + 1)) F1)) (stepped (go_to s 0 (Offered over)) Stale)) l) refl refl
 
-  way_f1_f2 : (r : ℕ) (over : Mark) (i : ℕ) → Way all (Offering r over i F1) (Offering r over i (F2 0))
+  way_f1_f2 : (r : ℕ) (over : Mark) (i : ℕ) → Way all (Offering (offer r over i) F1) (Offering (offer r over i) (F2 0))
   way_f1_f2 r over i =
-      let s = lone all over [] (seat (Offering r over i F1) announcement.Empty) in
-      way all (Offering r over i F1) (Offering r over i (F2 0)) s refl refl (step s 0) refl refl refl
+      let s = lone all over [] (seat (Offering (offer r over i) F1) announcement.Empty) in
+      way all (Offering (offer r over i) F1) (Offering (offer r over i) (F2 0)) s refl refl (step s 0) refl refl refl
 
   way_f1 : (r : ℕ) (over : Mark) (i : ℕ) (to : Position) (b : Bool) → ltb i (3 * all) ≡ b
-      → Among to (Offering r over i (F2 0) ∷ cond b (Offering r over (i + 1) F1 ∷ []) []) → Way all (Offering r over i F1) to
+      → Among to (Offering (offer r over i) (F2 0) ∷ cond b (Offering (offer r over (i + 1)) F1 ∷ []) []) → Way all (Offering (offer r over i) F1) to
   way_f1 r over i to true l m = either_to (way_f1_f2 r over i) (way_f1_f1 r over i l) to m
   way_f1 r over i to false l m = only_to (way_f1_f2 r over i) to m
 
-  way_f2 : (r : ℕ) (over : Mark) (i x : ℕ) → Way all (Offering r over i (F2 x)) (Offering r over i (next_or all x (F2 (x + 1)) F3))
+  way_f2 : (r : ℕ) (over : Mark) (i x : ℕ) → Way all (Offering (offer r over i) (F2 x)) (Offering (offer r over i) (next_or all x (F2 (x + 1)) F3))
   way_f2 r over i x =
-      let at = Offering r over i (F2 x) in
-      let next = Offering r over i (next_or all x (F2 (x + 1)) F3) in
+      let at = Offering (offer r over i) (F2 x) in
+      let next = Offering (offer r over i) (next_or all x (F2 (x + 1)) F3) in
       let s = lone all over [] (seat at announcement.Empty) in
       way all at next s refl refl (goes s 0 next)
       (ap (λ a. cond (flagged a) (cond (is_mark over over) (goes (announce s x (announcement.Plain over)) 0 next) (stales s 0 over i)) (goes s 0 next))
@@ -356,13 +356,13 @@ module _ (all : ℕ) where
       way all from to s refl refl (step s 0) refl k.0 k.1
 
 pub reaches : Reaches
-reaches all c (Opening n u O1) to m = only_to (way_straight all c (Opening n u O1) (Opening n u O2) (refl, refl)) to m
-reaches all c (Opening n u O2) to m = either_to (way_o2_o3 all n u) (way_o2_o4 all n u) to m
-reaches all c (Opening n u (O4 r)) to m = only_to (way_straight all c (Opening n u (O4 r)) (Opening n u (O5 c r)) (refl, refl)) to m
-reaches all c (Opening n u (O5 w r)) to m = only_to (way_o5 all n u w r) to m
-reaches all c (Opening n u (O6 r)) to m = way_rounds all n u r to m
-reaches all c (Offering r over i F1) to m = way_f1 all r over i to (ltb i (3 * all)) refl m
-reaches all c (Offering r over i (F2 x)) to m = only_to (way_f2 all r over i x) to m
+reaches all c (Opening t O1) to m = only_to (way_straight all c (Opening t O1) (Opening t O2) (refl, refl)) to m
+reaches all c (Opening t O2) to m = either_to (way_o2_o3 all t.since t.u) (way_o2_o4 all t.since t.u) to m
+reaches all c (Opening t (O4 r)) to m = only_to (way_straight all c (Opening t (O4 r)) (Opening t (O5 c r)) (refl, refl)) to m
+reaches all c (Opening t (O5 w r)) to m = only_to (way_o5 all t.since t.u w r) to m
+reaches all c (Opening t (O6 r)) to m = way_rounds all t.since t.u r to m
+reaches all c (Offering o F1) to m = way_f1 all o.root o.over o.slot to (ltb o.slot (3 * all)) refl m
+reaches all c (Offering o (F2 x)) to m = only_to (way_f2 all o.root o.over o.slot x) to m
 reaches all c (Closing v C1) to m = only_to (way_straight all c (Closing v C1) (Closing v C2) (refl, refl)) to m
 reaches all c (Closing v C2) to m = only_to (way_c2 all v) to m
 reaches all c (Closing v C3) to m = either_to (way_c3_c4 all v) (way_c3_c6 all v) to m

@@ -6,7 +6,7 @@ use Rattle.announcement_theory.specs.declared.announcement.Announcement.TheVaria
 use Rattle.announcement_theory.specs.declared.position.Position.TheVariants.{Open, Offering, Offered}
 use Rattle.announcement_theory.specs.declared.position.OfferLabel.TheVariants.{F1, F2, F3}
 use Rattle.announcement_theory.specs.declared.seat.Seat.{Seat}
-use Rattle.announcement_theory.specs.State.{State, seat, seat_at, announced_at}
+use Rattle.announcement_theory.specs.State.{State, seat, seat_at, announced_at, offer}
 use Rattle.announcement_theory.specs.Tests.{is_mark, flagged}
 use Rattle.announcement_theory.specs.Next.{put}
 use Rattle.announcement_theory.specs.Shares.{share, accounted}
@@ -21,11 +21,11 @@ module _ (s : State) (g : Good s) (p : ℕ) (h : p < s.programs) (r : ℕ) (over
   V = s.current
 
   pub publish_good : seat_at s p ≡ seat (Open over) (announcement.Plain over) → (V.serial ≡ s.last → ⊥) → Good
-      (put s p (seat (Offering r over 0 F1) (announcement.Plain over)))
+      (put s p (seat (Offering (offer r over 0) F1) (announcement.Plain over)))
   publish_good e open_end =
       let old = seat (Open over) (announcement.Plain over) in
       let t = stay s g p h old e in
-      moves_on s g p h old (seat (Offering r over 0 F1) (announcement.Plain over)) e refl refl
+      moves_on s g p h old (seat (Offering (offer r over 0) F1) (announcement.Plain over)) e refl refl
       (omega (arith, t.knows.0.to, g.reached, open_end))
       (λ o i q c. let z : i ≡ 0 = cc in omega arith)
       (record {
@@ -40,11 +40,11 @@ module _ (s : State) (g : Good s) (p : ℕ) (h : p < s.programs) (r : ℕ) (over
       })
 
   -- the next slot, where the search over V is accounted for with this one
-  pub f1_next_good : (i : ℕ) → seat_at s p ≡ seat (Offering r over i F1) (announcement.Plain over) → i < 3 * s.programs
-      → (is_mark over V ≡ true → i + 1 ≤ accounted s (i + 1)) → Good (put s p (seat (Offering r over (i + 1) F1) (announcement.Plain over)))
+  pub f1_next_good : (i : ℕ) → seat_at s p ≡ seat (Offering (offer r over i) F1) (announcement.Plain over) → i < 3 * s.programs
+      → (is_mark over V ≡ true → i + 1 ≤ accounted s (i + 1)) → Good (put s p (seat (Offering (offer r over (i + 1)) F1) (announcement.Plain over)))
   f1_next_good i e l gain =
-      let old = seat (Offering r over i F1) (announcement.Plain over) in
-      let new = seat (Offering r over (i + 1) F1) (announcement.Plain over) in
+      let old = seat (Offering (offer r over i) F1) (announcement.Plain over) in
+      let new = seat (Offering (offer r over (i + 1)) F1) (announcement.Plain over) in
       let t = stay s g p h old e in
       moves_on s g p h old new e refl refl
       t.offers
@@ -67,10 +67,10 @@ module _ (s : State) (g : Good s) (p : ℕ) (h : p < s.programs) (r : ℕ) (over
         rise = λ i. omega arith;
       })
 
-  pub f1_end_good : (i : ℕ) → seat_at s p ≡ seat (Offering r over i F1) (announcement.Plain over) → Good
+  pub f1_end_good : (i : ℕ) → seat_at s p ≡ seat (Offering (offer r over i) F1) (announcement.Plain over) → Good
       (put s p (seat (Offered over) (announcement.Plain over)))
   f1_end_good i e =
-      let old = seat (Offering r over i F1) (announcement.Plain over) in
+      let old = seat (Offering (offer r over i) F1) (announcement.Plain over) in
       let t = stay s g p h old e in
       moves s g p h old (seat (Offered over) (announcement.Plain over)) e refl refl
       (record {
@@ -84,9 +84,9 @@ module _ (s : State) (g : Good s) (p : ℕ) (h : p < s.programs) (r : ℕ) (over
         rise = λ i. omega (arith, used_more V i over);
       })
 
-  module _ (i x : ℕ) (was : seat_at s p ≡ seat (Offering r over i (F2 x)) (announcement.Plain over)) (unflagged : flagged (announced_at s x) ≡ false) where
+  module _ (i x : ℕ) (was : seat_at s p ≡ seat (Offering (offer r over i) (F2 x)) (announcement.Plain over)) (unflagged : flagged (announced_at s x) ≡ false) where
     abbrev old : Seat
-    old = seat (Offering r over i (F2 x)) (announcement.Plain over)
+    old = seat (Offering (offer r over i) (F2 x)) (announcement.Plain over)
 
     owns_next : (b : ℕ) → b ≡ x + 1 → OwnsAt s p r over i b
     owns_next b n =
@@ -105,10 +105,10 @@ module _ (s : State) (g : Good s) (p : ℕ) (h : p < s.programs) (r : ℕ) (over
               (cases_eq q x);
         }
 
-    pub f2_next_good : x + 1 < s.programs → Good (put s p (seat (Offering r over i (F2 (x + 1))) (announcement.Plain over)))
+    pub f2_next_good : x + 1 < s.programs → Good (put s p (seat (Offering (offer r over i) (F2 (x + 1))) (announcement.Plain over)))
     f2_next_good l =
         let t = stay s g p h old was in
-        let new = seat (Offering r over i (F2 (x + 1))) (announcement.Plain over) in
+        let new = seat (Offering (offer r over i) (F2 (x + 1))) (announcement.Plain over) in
         let b = and_parts (leb i (3 * s.programs)) (ltb x s.programs) t.ranged in
         put_good s p new (rest_same s g p) (record {
           ranged = and_from (leb i (3 * s.programs)) (ltb (x + 1) s.programs) b.0 (lt-ltb (x + 1) s.programs l);
@@ -125,10 +125,10 @@ module _ (s : State) (g : Good s) (p : ℕ) (h : p < s.programs) (r : ℕ) (over
           seeking = λ o k e. let z : ◌≡◌ {A = ℕ} 0 1 = cc in absurd (omega arith);
         }) h
 
-    pub f2_last_good : s.programs ≤ x + 1 → Good (put s p (seat (Offering r over i F3) (announcement.Plain over)))
+    pub f2_last_good : s.programs ≤ x + 1 → Good (put s p (seat (Offering (offer r over i) F3) (announcement.Plain over)))
     f2_last_good l =
         let t = stay s g p h old was in
-        let new = seat (Offering r over i F3) (announcement.Plain over) in
+        let new = seat (Offering (offer r over i) F3) (announcement.Plain over) in
         let b = and_parts (leb i (3 * s.programs)) (ltb x s.programs) t.ranged in
         let here : x < s.programs = ltb-true x s.programs b.1 in
         put_good s p new (rest_same s g p) (record {

@@ -8,7 +8,7 @@ use Rattle.announcement_theory.specs.declared.position.Round.{Round}
 use Rattle.announcement_theory.specs.declared.position.Round.TheVariants.{First, Second}
 use Rattle.announcement_theory.specs.declared.position.Position.TheVariants.{Idle, Opening, Open}
 use Rattle.announcement_theory.specs.declared.position.OpenLabel.TheVariants.{O1, O2, O3, O4, O5, O6}
-use Rattle.announcement_theory.specs.State.{State, seat, slot_at, seat_at}
+use Rattle.announcement_theory.specs.State.{State, seat, slot_at, seat_at, attempt}
 use Rattle.announcement_theory.specs.Tests.{is_mark, pending, frozen}
 use Rattle.announcement_theory.specs.Next.{put}
 use Rattle.announcement_theory.specs.Views.{asking, fits, Opener, calm, ready, seeking, found, settled, steady}
@@ -51,8 +51,8 @@ module _ (s : State) (g : Good s) (p : ℕ) (h : p < s.programs) where
   abbrev V : Mark
   V = s.current
 
-  pub open_good : seat_at s p ≡ seat Idle announcement.Empty → Good (put s p (seat (Opening V.serial V O1) announcement.Empty))
-  open_good e = moves s g p h (seat Idle announcement.Empty) (seat (Opening V.serial V O1) announcement.Empty) e refl refl (record {
+  pub open_good : seat_at s p ≡ seat Idle announcement.Empty → Good (put s p (seat (Opening (attempt V.serial V) O1) announcement.Empty))
+  open_good e = moves s g p h (seat Idle announcement.Empty) (seat (Opening (attempt V.serial V) O1) announcement.Empty) e refl refl (record {
     ranged = refl;
     local = refl;
     knows = (sound_current s g p V.serial (omega arith), tt, tt);
@@ -64,11 +64,11 @@ module _ (s : State) (g : Good s) (p : ℕ) (h : p < s.programs) where
   })
 
   module _ (n : ℕ) (u : Mark) where
-    pub o1_good : seat_at s p ≡ seat (Opening n u O1) announcement.Empty → Good (put s p (seat (Opening n u O2) (announcement.Help u)))
+    pub o1_good : seat_at s p ≡ seat (Opening (attempt n u) O1) announcement.Empty → Good (put s p (seat (Opening (attempt n u) O2) (announcement.Help u)))
     o1_good e =
-        let old = seat (Opening n u O1) announcement.Empty in
+        let old = seat (Opening (attempt n u) O1) announcement.Empty in
         let t = stay s g p h old e in
-        moves s g p h old (seat (Opening n u O2) (announcement.Help u)) e refl refl (record {
+        moves s g p h old (seat (Opening (attempt n u) O2) (announcement.Help u)) e refl refl (record {
           ranged = refl;
           local = mark_self u;
           knows = (t.knows.0, tt, t.knows.0);
@@ -98,10 +98,10 @@ module _ (s : State) (g : Good s) (p : ℕ) (h : p < s.programs) where
       steady = refl;
     }
 
-    pub o2_same_good : (a : Announcement) → seat_at s p ≡ seat (Opening n u O2) a → is_mark V u ≡ true → Good (put s p (seat (Opening n u O3) a))
+    pub o2_same_good : (a : Announcement) → seat_at s p ≡ seat (Opening (attempt n u) O2) a → is_mark V u ≡ true → Good (put s p (seat (Opening (attempt n u) O3) a))
     o2_same_good a e c =
-        let t = stay s g p h (seat (Opening n u O2) a) e in
-        moves s g p h (seat (Opening n u O2) a) (seat (Opening n u O3) a) e refl refl (record {
+        let t = stay s g p h (seat (Opening (attempt n u) O2) a) e in
+        moves s g p h (seat (Opening (attempt n u) O2) a) (seat (Opening (attempt n u) O3) a) e refl refl (record {
           ranged = refl;
           local = t.local;
           knows = t.knows;
@@ -112,10 +112,10 @@ module _ (s : State) (g : Good s) (p : ℕ) (h : p < s.programs) where
           rise = λ i. omega arith;
         })
 
-    pub o2_moved_good : (a : Announcement) → seat_at s p ≡ seat (Opening n u O2) a → is_mark V u ≡ false → Good (put s p (seat (Opening n u (O4 First)) a))
+    pub o2_moved_good : (a : Announcement) → seat_at s p ≡ seat (Opening (attempt n u) O2) a → is_mark V u ≡ false → Good (put s p (seat (Opening (attempt n u) (O4 First)) a))
     o2_moved_good a e c =
-        let t = stay s g p h (seat (Opening n u O2) a) e in
-        moves s g p h (seat (Opening n u O2) a) (seat (Opening n u (O4 First)) a) e refl refl (record {
+        let t = stay s g p h (seat (Opening (attempt n u) O2) a) e in
+        moves s g p h (seat (Opening (attempt n u) O2) a) (seat (Opening (attempt n u) (O4 First)) a) e refl refl (record {
           ranged = refl;
           local = t.local;
           knows = t.knows;
@@ -126,9 +126,9 @@ module _ (s : State) (g : Good s) (p : ℕ) (h : p < s.programs) where
           rise = λ i. omega (arith, share_lost V u i a (mark_flip u V ∙ c));
         })
 
-    pub o3_own_good : seat_at s p ≡ seat (Opening n u O3) (announcement.Help u) → Good (put s p (seat (Open u) (announcement.Plain u)))
+    pub o3_own_good : seat_at s p ≡ seat (Opening (attempt n u) O3) (announcement.Help u) → Good (put s p (seat (Open u) (announcement.Plain u)))
     o3_own_good e =
-        let old = seat (Opening n u O3) (announcement.Help u) in
+        let old = seat (Opening (attempt n u) O3) (announcement.Help u) in
         let t = stay s g p h old e in
         let mine : Sound s p 0 u = later s p n u t.knows.0 in
         let now : ReadyAt s p u = t.opens.ready in
@@ -147,9 +147,9 @@ module _ (s : State) (g : Good s) (p : ℕ) (h : p < s.programs) where
         })
 
     -- an open ends on the version that it is bound to
-    pub o3_bound_good : (v : Mark) → seat_at s p ≡ seat (Opening n u O3) (announcement.Plain v) → Good (put s p (seat (Open v) (announcement.Plain v)))
+    pub o3_bound_good : (v : Mark) → seat_at s p ≡ seat (Opening (attempt n u) O3) (announcement.Plain v) → Good (put s p (seat (Open v) (announcement.Plain v)))
     o3_bound_good v e =
-        let old = seat (Opening n u O3) (announcement.Plain v) in
+        let old = seat (Opening (attempt n u) O3) (announcement.Plain v) in
         let t = stay s g p h old e in
         let mine : Sound s p 0 v = later s p n v t.knows.2 in
         moves s g p h old (seat (Open v) (announcement.Plain v)) e refl refl (record {
@@ -164,10 +164,10 @@ module _ (s : State) (g : Good s) (p : ℕ) (h : p < s.programs) where
         })
 
     module _ (r : Round) where
-      pub o4_good : (a : Announcement) → seat_at s p ≡ seat (Opening n u (O4 r)) a → Good (put s p (seat (Opening n u (O5 V r)) a))
+      pub o4_good : (a : Announcement) → seat_at s p ≡ seat (Opening (attempt n u) (O4 r)) a → Good (put s p (seat (Opening (attempt n u) (O5 V r)) a))
       o4_good a e =
-          let t = stay s g p h (seat (Opening n u (O4 r)) a) e in
-          moves s g p h (seat (Opening n u (O4 r)) a) (seat (Opening n u (O5 V r)) a) e refl refl (record {
+          let t = stay s g p h (seat (Opening (attempt n u) (O4 r)) a) e in
+          moves s g p h (seat (Opening (attempt n u) (O4 r)) a) (seat (Opening (attempt n u) (O5 V r)) a) e refl refl (record {
             ranged = refl;
             local = t.local;
             knows = (t.knows.0, sound_current s g p n (omega (arith, t.knows.0.from, t.knows.0.to)), t.knows.2);
@@ -182,11 +182,11 @@ module _ (s : State) (g : Good s) (p : ℕ) (h : p < s.programs) where
             rise = λ i. omega arith;
           })
 
-      pub o5_flag_good : (w : Mark) → seat_at s p ≡ seat (Opening n u (O5 w r)) (announcement.Help u) → Good (put s p (seat (Opening n w (O6 r)) (announcement.Help w)))
+      pub o5_flag_good : (w : Mark) → seat_at s p ≡ seat (Opening (attempt n u) (O5 w r)) (announcement.Help u) → Good (put s p (seat (Opening (attempt n w) (O6 r)) (announcement.Help w)))
       o5_flag_good w e =
-          let old = seat (Opening n u (O5 w r)) (announcement.Help u) in
+          let old = seat (Opening (attempt n u) (O5 w r)) (announcement.Help u) in
           let t = stay s g p h old e in
-          moves s g p h old (seat (Opening n w (O6 r)) (announcement.Help w)) e refl refl (record {
+          moves s g p h old (seat (Opening (attempt n w) (O6 r)) (announcement.Help w)) e refl refl (record {
             ranged = refl;
             local = mark_self w;
             knows = (t.knows.1, tt, t.knows.1);
@@ -197,9 +197,9 @@ module _ (s : State) (g : Good s) (p : ℕ) (h : p < s.programs) where
             rise = λ i. omega arith;
           })
 
-      pub o5_bound_good : (w v : Mark) → seat_at s p ≡ seat (Opening n u (O5 w r)) (announcement.Plain v) → Good (put s p (seat (Open v) (announcement.Plain v)))
+      pub o5_bound_good : (w v : Mark) → seat_at s p ≡ seat (Opening (attempt n u) (O5 w r)) (announcement.Plain v) → Good (put s p (seat (Open v) (announcement.Plain v)))
       o5_bound_good w v e =
-          let old = seat (Opening n u (O5 w r)) (announcement.Plain v) in
+          let old = seat (Opening (attempt n u) (O5 w r)) (announcement.Plain v) in
           let t = stay s g p h old e in
           let mine : Sound s p 0 v = later s p n v t.knows.2 in
           moves s g p h old (seat (Open v) (announcement.Plain v)) e refl refl (record {
@@ -213,10 +213,10 @@ module _ (s : State) (g : Good s) (p : ℕ) (h : p < s.programs) where
             rise = λ i. omega arith;
           })
 
-      pub o6_same_good : (a : Announcement) → seat_at s p ≡ seat (Opening n u (O6 r)) a → is_mark V u ≡ true → Good (put s p (seat (Opening n u O3) a))
+      pub o6_same_good : (a : Announcement) → seat_at s p ≡ seat (Opening (attempt n u) (O6 r)) a → is_mark V u ≡ true → Good (put s p (seat (Opening (attempt n u) O3) a))
       o6_same_good a e c =
-          let t = stay s g p h (seat (Opening n u (O6 r)) a) e in
-          moves s g p h (seat (Opening n u (O6 r)) a) (seat (Opening n u O3) a) e refl refl (record {
+          let t = stay s g p h (seat (Opening (attempt n u) (O6 r)) a) e in
+          moves s g p h (seat (Opening (attempt n u) (O6 r)) a) (seat (Opening (attempt n u) O3) a) e refl refl (record {
             ranged = refl;
             local = t.local;
             knows = t.knows;
@@ -227,9 +227,9 @@ module _ (s : State) (g : Good s) (p : ℕ) (h : p < s.programs) where
             rise = λ i. omega arith;
           })
 
-      pub o6_bound_good : (v : Mark) → seat_at s p ≡ seat (Opening n u (O6 r)) (announcement.Plain v) → Good (put s p (seat (Open v) (announcement.Plain v)))
+      pub o6_bound_good : (v : Mark) → seat_at s p ≡ seat (Opening (attempt n u) (O6 r)) (announcement.Plain v) → Good (put s p (seat (Open v) (announcement.Plain v)))
       o6_bound_good v e =
-          let old = seat (Opening n u (O6 r)) (announcement.Plain v) in
+          let old = seat (Opening (attempt n u) (O6 r)) (announcement.Plain v) in
           let t = stay s g p h old e in
           let mine : Sound s p 0 v = later s p n v t.knows.2 in
           moves s g p h old (seat (Open v) (announcement.Plain v)) e refl refl (record {
@@ -243,10 +243,10 @@ module _ (s : State) (g : Good s) (p : ℕ) (h : p < s.programs) where
             rise = λ i. omega arith;
           })
 
-    pub o6_again_good : (a : Announcement) → seat_at s p ≡ seat (Opening n u (O6 First)) a → is_mark V u ≡ false → Good (put s p (seat (Opening n u (O4 Second)) a))
+    pub o6_again_good : (a : Announcement) → seat_at s p ≡ seat (Opening (attempt n u) (O6 First)) a → is_mark V u ≡ false → Good (put s p (seat (Opening (attempt n u) (O4 Second)) a))
     o6_again_good a e c =
-        let t = stay s g p h (seat (Opening n u (O6 First)) a) e in
-        moves s g p h (seat (Opening n u (O6 First)) a) (seat (Opening n u (O4 Second)) a) e refl refl (record {
+        let t = stay s g p h (seat (Opening (attempt n u) (O6 First)) a) e in
+        moves s g p h (seat (Opening (attempt n u) (O6 First)) a) (seat (Opening (attempt n u) (O4 Second)) a) e refl refl (record {
           ranged = refl;
           local = t.local;
           knows = t.knows;
@@ -262,8 +262,8 @@ module _ (s : State) (g : Good s) (p : ℕ) (h : p < s.programs) where
         })
 
     -- after the second round someone has helped
-    pub helped_twice : (a : Announcement) → seat_at s p ≡ seat (Opening n u (O6 Second)) a → is_mark V u ≡ false → (v : Mark) × (a ≡ announcement.Plain v)
-    helped_twice a e c = go a (stay s g p h (seat (Opening n u (O6 Second)) a) e).local (stay s g p h (seat (Opening n u (O6 Second)) a) e).opens
+    pub helped_twice : (a : Announcement) → seat_at s p ≡ seat (Opening (attempt n u) (O6 Second)) a → is_mark V u ≡ false → (v : Mark) × (a ≡ announcement.Plain v)
+    helped_twice a e c = go a (stay s g p h (seat (Opening (attempt n u) (O6 Second)) a) e).local (stay s g p h (seat (Opening (attempt n u) (O6 Second)) a) e).opens
       where
         go : (b : Announcement) → fits (asking u) b ≡ true → Opens s p (found u Second) b → (v : Mark) × (b ≡ announcement.Plain v)
         go announcement.Empty l o = false_true l

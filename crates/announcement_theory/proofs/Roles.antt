@@ -4,13 +4,14 @@ use Rattle.std.proofs.lemmas.Option.{same_Some}
 use Rattle.announcement_theory.specs.declared.mark.Mark.{Mark}
 use Rattle.announcement_theory.specs.declared.announcement.Announcement.{Announcement}
 use Rattle.announcement_theory.specs.declared.announcement.Announcement.TheVariants as announcement
+use Rattle.announcement_theory.specs.declared.position.Offer.{Offer}
 use Rattle.announcement_theory.specs.declared.position.Position.{Position}
 use Rattle.announcement_theory.specs.declared.position.Position.TheVariants.{Idle, Opening, Offering, Closing}
 use Rattle.announcement_theory.specs.declared.position.OpenLabel.TheVariants.{O1, O3}
 use Rattle.announcement_theory.specs.declared.position.OfferLabel.{OfferLabel}
 use Rattle.announcement_theory.specs.declared.position.OfferLabel.TheVariants.{F1, F2, F3}
 use Rattle.announcement_theory.specs.declared.position.CloseLabel.TheVariants.{C1}
-use Rattle.announcement_theory.specs.Views.{silent, asking, holding, manner, fits, about, since, Opener, calm, ready, seeking, found, opener, offerer, over_in, Closer, stays, checks, past, pends, sweeps, closer}
+use Rattle.announcement_theory.specs.Views.{silent, asking, holding, manner, fits, about, Opener, calm, ready, seeking, found, opener, offerer, over_in, Closer, stays, checks, past, pends, sweeps, closer}
 use Rattle.announcement_theory.proofs.Basics.{false_true, none_some, holding_plain, silent_empty}
 
 -- a close is past the emptying of its announcement
@@ -23,19 +24,19 @@ closing (sweeps v b) = true
 
 pub closing_silent : (all : ℕ) (at : Position) → closing (closer all at) ≡ true → manner at ≡ silent
 closing_silent all Idle e = refl
-closing_silent all (Opening since u O1) e = refl
+closing_silent all (Opening t O1) e = refl
 closing_silent all (Closing v C1) e = false_true e
 closing_silent all (Closing v _) e = refl
 closing_silent all _ e = false_true e
 
 -- an offer is over one version at each label
-over_is : (all r : ℕ) (over : Mark) (i : ℕ) (at : OfferLabel) → over_in (offerer all (Offering r over i at)) ≡ Some over
-over_is all r over i F1 = refl
-over_is all r over i (F2 x) = refl
-over_is all r over i F3 = refl
+over_is : (all : ℕ) (f : Offer) (at : OfferLabel) → over_in (offerer all (Offering f at)) ≡ Some f.over
+over_is all f F1 = refl
+over_is all f (F2 x) = refl
+over_is all f F3 = refl
 
 pub offering_holding : (all : ℕ) (at : Position) (o : Mark) → over_in (offerer all at) ≡ Some o → manner at ≡ holding o
-offering_holding all (Offering r over i at) o e = ap holding (same_Some over o (sym (over_is all r over i at) ∙ e))
+offering_holding all (Offering f at) o e = ap holding (same_Some f.over o (sym (over_is all f at) ∙ e))
 offering_holding all _ o e = none_some o e
 
 abbrev is_ready : Opener → Bool
@@ -45,7 +46,7 @@ is_ready (seeking r) = false
 is_ready (found v r) = false
 
 ready_asks : (at : Position) → is_ready (opener at) ≡ true → (u : Mark) × (manner at ≡ asking u)
-ready_asks (Opening since u O3) e = (u, refl)
+ready_asks (Opening t O3) e = (t.u, refl)
 ready_asks _ e = false_true e
 
 -- a program about to take its flag off is not closing
@@ -78,5 +79,5 @@ closing_about all (Closing w _) v e = e
 closing_about all _ v e = none_some v e
 
 pub offering_about : (all : ℕ) (at : Position) (v : Mark) → over_in (offerer all at) ≡ Some v → about at ≡ Some v
-offering_about all (Offering r over i at) v e = sym (over_is all r over i at) ∙ e
+offering_about all (Offering o at) v e = sym (over_is all o at) ∙ e
 offering_about all _ v e = none_some v e

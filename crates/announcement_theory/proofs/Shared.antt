@@ -8,7 +8,7 @@ use Rattle.announcement_theory.specs.declared.position.Position.TheVariants.{Ope
 use Rattle.announcement_theory.specs.declared.position.OpenLabel.TheVariants.{O2, O3, O4, O5, O6}
 use Rattle.announcement_theory.specs.declared.position.CloseLabel.TheVariants.{C1}
 use Rattle.announcement_theory.specs.Tests.{is_mark}
-use Rattle.announcement_theory.specs.Views.{asking, manner, since, aside, offerer}
+use Rattle.announcement_theory.specs.Views.{asking, manner, aside, offerer}
 use Rattle.announcement_theory.specs.Shares.{Past, hopes, lost, below, used, share_of, past_of}
 use Rattle.announcement_theory.proofs.Basics.{false_true, true_false}
 
@@ -62,10 +62,10 @@ waits_more false p false l e = e
 -- an asking program is not offering, and accounts as one that opens
 pub asking_aside : (all : ℕ) (at : Position) (u : Mark) → manner at ≡ asking u → (offerer all at ≡ aside) ×
     ((past_of at ≡ hopes u) ⊎ (past_of at ≡ lost))
-asking_aside all (Opening since v O2) u e = (refl, inl (let f : v ≡ u = cc in ap hopes f))
-asking_aside all (Opening since v O3) u e = (refl, inl (let f : v ≡ u = cc in ap hopes f))
-asking_aside all (Opening since v (O4 round)) u e = (refl, inr refl)
-asking_aside all (Opening since v (O5 w round)) u e = (refl, inr refl)
-asking_aside all (Opening since v (O6 round)) u e = (refl, inl (let f : v ≡ u = cc in ap hopes f))
+asking_aside all (Opening t O2) u e = (refl, inl (let f : t.u ≡ u = cc in ap hopes f))
+asking_aside all (Opening t O3) u e = (refl, inl (let f : t.u ≡ u = cc in ap hopes f))
+asking_aside all (Opening t (O4 round)) u e = (refl, inr refl)
+asking_aside all (Opening t (O5 w round)) u e = (refl, inr refl)
+asking_aside all (Opening t (O6 round)) u e = (refl, inl (let f : t.u ≡ u = cc in ap hopes f))
 asking_aside all (Closing v C1) u e = let z : ◌≡◌ {A = ℕ} 0 1 = cc in absurd (omega arith)
 asking_aside all _ u e = let z : ◌≡◌ {A = ℕ} 0 1 = cc in absurd (omega arith)

@@ -9,7 +9,7 @@ use Rattle.announcement_theory.specs.declared.position.Position.TheVariants.{Idl
 use Rattle.announcement_theory.specs.declared.position.OfferLabel.TheVariants.{F3}
 use Rattle.announcement_theory.specs.declared.position.CloseLabel.TheVariants.{C7}
 use Rattle.announcement_theory.specs.declared.seat.Seat.{Seat}
-use Rattle.announcement_theory.specs.State.{State, mark, seat, slot_at, seat_at, position_at, announced_at}
+use Rattle.announcement_theory.specs.State.{State, mark, seat, slot_at, seat_at, position_at, announced_at, offer}
 use Rattle.announcement_theory.specs.Tests.{is_mark, serial_in, root_in, usable, frozen, restated}
 use Rattle.announcement_theory.specs.Next.{put, fill, advance}
 use Rattle.announcement_theory.specs.Views.{about, Mentions, offerer, owned, closer}
@@ -103,7 +103,7 @@ restates s g p h j st x in_slots free = record {
 
 -- an accepted offer
 module _ (s : State) (g : Good s) (p : ℕ) (h : p < s.programs) (r : ℕ) (over : Mark) (i : ℕ)
-    (was : seat_at s p ≡ seat (Offering r over i F3) (announcement.Plain over))
+    (was : seat_at s p ≡ seat (Offering (offer r over i) F3) (announcement.Plain over))
     (current : is_mark over s.current ≡ true) where
   pub accepts : StepDone (meaning_of s) p (meaning_of
       (put (advance s (mark (serial_in (slot_at s i)) i)) p (seat (Offered over) (announcement.Plain over)))) (Accepted (serial_in (slot_at s i)))
@@ -129,7 +129,7 @@ module _ (s : State) (g : Good s) (p : ℕ) (h : p < s.programs) (r : ℕ) (over
       t = advance s (mark (serial_in (slot_at s i)) i)
 
       old : Seat
-      old = seat (Offering r over i F3) (announcement.Plain over)
+      old = seat (Offering (offer r over i) F3) (announcement.Plain over)
 
       x : Seat
       x = seat (Offered over) (announcement.Plain over)

@@ -9,25 +9,25 @@ use Rattle.announcement_theory.specs.declared.position.Position.TheVariants.{Ope
 use Rattle.announcement_theory.specs.declared.position.OpenLabel.TheVariants.{O1, O2, O3, O4, O5, O6}
 use Rattle.announcement_theory.specs.declared.position.OfferLabel.TheVariants.{F1, F2, F3}
 use Rattle.announcement_theory.specs.declared.position.CloseLabel.TheVariants.{C1, C2, C3, C4, C5, C6, C7}
-use Rattle.announcement_theory.specs.State.{State, position_at}
+use Rattle.announcement_theory.specs.State.{State, position_at, attempt, offer}
 use Rattle.announcement_theory.specs.Next.{step, next_or}
 use Rattle.announcement_theory.specs.Views.{ranged}
 use Rattle.announcement_theory.specs.Means.{left_at, label_of}
 
 -- after O6 a second round, if this is the first
 abbrev pub rounds : ℕ → Mark → Round → List Position
-rounds n u First = Opening n u O3 ∷ Opening n u (O4 Second) ∷ []
-rounds n u Second = Opening n u O3 ∷ []
+rounds n u First = Opening (attempt n u) O3 ∷ Opening (attempt n u) (O4 Second) ∷ []
+rounds n u Second = Opening (attempt n u) O3 ∷ []
 
 -- where a step at each label can lead, if it does not end the operation, with `all` programs and c the current version
 abbrev pub successors : ℕ → Mark → Position → List Position
-successors all c (Opening n u O1) = Opening n u O2 ∷ []
-successors all c (Opening n u O2) = Opening n u O3 ∷ Opening n u (O4 First) ∷ []
-successors all c (Opening n u (O4 r)) = Opening n u (O5 c r) ∷ []
-successors all c (Opening n u (O5 w r)) = Opening n w (O6 r) ∷ []
-successors all c (Opening n u (O6 r)) = rounds n u r
-successors all c (Offering r over i F1) = Offering r over i (F2 0) ∷ cond (nat_lt i (3 * all)) (Offering r over (i + 1) F1 ∷ []) []
-successors all c (Offering r over i (F2 x)) = Offering r over i (next_or all x (F2 (x + 1)) F3) ∷ []
+successors all c (Opening t O1) = Opening t O2 ∷ []
+successors all c (Opening t O2) = Opening t O3 ∷ Opening t (O4 First) ∷ []
+successors all c (Opening t (O4 r)) = Opening t (O5 c r) ∷ []
+successors all c (Opening t (O5 w r)) = Opening (attempt t.since w) (O6 r) ∷ []
+successors all c (Opening t (O6 r)) = rounds t.since t.u r
+successors all c (Offering o F1) = Offering o (F2 0) ∷ cond (nat_lt o.slot (3 * all)) (Offering (offer o.root o.over (o.slot + 1)) F1 ∷ []) []
+successors all c (Offering o (F2 x)) = Offering o (next_or all x (F2 (x + 1)) F3) ∷ []
 successors all c (Closing v C1) = Closing v C2 ∷ []
 successors all c (Closing v C2) = Closing v C3 ∷ []
 successors all c (Closing v C3) = Closing v (C4 0) ∷ Closing v (C6 0) ∷ []

@@ -34,9 +34,9 @@ bound (announcement.Help v) = None
 -- the stage of a program at each label
 abbrev pub stage_from : Announcement → Position → Stage
 stage_from a Idle = stage.Idle
-stage_from a (Opening since u at) = stage.Opening since (bound a)
+stage_from a (Opening t at) = stage.Opening t.since (bound a)
 stage_from a (Open v) = stage.Open v.serial
-stage_from a (Offering r over i at) = stage.Offering r over.serial
+stage_from a (Offering o at) = stage.Offering o.root o.over.serial
 stage_from a (Offered v) = stage.Offered v.serial
 stage_from a (Closing v at) = stage.Closing v.serial
 
@@ -52,16 +52,16 @@ in_round Second a b = b
 -- the steps of the longest way to an end, where there are `all` programs
 abbrev pub left_at : ℕ → Position → ℕ
 left_at all Idle = 0
-left_at all (Opening since u O1) = 9
-left_at all (Opening since u O2) = 8
-left_at all (Opening since u O3) = 1
-left_at all (Opening since u (O4 round)) = in_round round 7 4
-left_at all (Opening since u (O5 w round)) = in_round round 6 3
-left_at all (Opening since u (O6 round)) = in_round round 5 2
+left_at all (Opening t O1) = 9
+left_at all (Opening t O2) = 8
+left_at all (Opening t O3) = 1
+left_at all (Opening t (O4 round)) = in_round round 7 4
+left_at all (Opening t (O5 w round)) = in_round round 6 3
+left_at all (Opening t (O6 round)) = in_round round 5 2
 left_at all (Open v) = 0
-left_at all (Offering r over i F1) = 4 * all + 2 - i
-left_at all (Offering r over i (F2 x)) = all + 1 - x
-left_at all (Offering r over i F3) = 1
+left_at all (Offering o F1) = 4 * all + 2 - o.slot
+left_at all (Offering o (F2 x)) = all + 1 - x
+left_at all (Offering o F3) = 1
 left_at all (Offered v) = 0
 left_at all (Closing v C1) = 2 * all + 5
 left_at all (Closing v C2) = 2 * all + 4
@@ -97,9 +97,9 @@ close_label C7 = label.C7
 -- the label of an operation under way
 abbrev pub label_of : Position → Option Label
 label_of Idle = None
-label_of (Opening since u at) = Some (open_label at)
+label_of (Opening t at) = Some (open_label at)
 label_of (Open v) = None
-label_of (Offering r over i at) = Some (offer_label at)
+label_of (Offering o at) = Some (offer_label at)
 label_of (Offered v) = None
 label_of (Closing v at) = Some (close_label at)
 

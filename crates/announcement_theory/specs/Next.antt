@@ -16,7 +16,7 @@ use Rattle.announcement_theory.specs.declared.position.OpenLabel.TheVariants.{O1
 use Rattle.announcement_theory.specs.declared.position.OfferLabel.TheVariants.{F1, F2, F3}
 use Rattle.announcement_theory.specs.declared.position.CloseLabel.TheVariants.{C1, C2, C3, C4, C5, C6, C7}
 use Rattle.announcement_theory.specs.declared.seat.Seat.{Seat}
-use Rattle.announcement_theory.specs.State.{State, mark, seat, stored, slot_at, position_at, announced_at}
+use Rattle.announcement_theory.specs.State.{State, mark, seat, stored, slot_at, position_at, announced_at, offer, attempt}
 use Rattle.announcement_theory.specs.Views.{about}
 use Rattle.announcement_theory.specs.Tests.{is_mark, asks, bears, flagged, version_in, serial_in, restated}
 
@@ -85,9 +85,9 @@ stales s p over i = stepped (go_to (fill s i None) p (Offered over)) Stale
 
 -- F1 at slot i, which holds the last argument
 abbrev pub searches : State → ℕ → ℕ → Mark → ℕ → Option Stored → Stepped
-searches s p r over i None = goes (fill s i (Some (stored (s.current.serial + 1) r Usable))) p (Offering r over i (F2 0))
+searches s p r over i None = goes (fill s i (Some (stored (s.current.serial + 1) r Usable))) p (Offering (offer r over i) (F2 0))
 searches s p r over i (Some x) =
-    cond (nat_lt i (3 * s.programs)) (goes s p (Offering r over (i + 1) F1)) (stepped (go_to s p (Offered over)) Stale)
+    cond (nat_lt i (3 * s.programs)) (goes s p (Offering (offer r over (i + 1)) F1)) (stepped (go_to s p (Offered over)) Stale)
 
 -- C3 at the slot of v, which holds version n with root r, in the status of the last argument
 abbrev pub looks_on : State → ℕ → Mark → ℕ → ℕ → Status → Stepped
@@ -115,34 +115,34 @@ hands s p v (Some x) = hands_on s p v x.serial x.status
 
 -- O6 when u is no longer current: a second round, and after that the end
 abbrev pub again : State → ℕ → ℕ → Mark → Round → Stepped
-again s p since u First = goes s p (Opening since u (O4 Second))
+again s p since u First = goes s p (Opening (attempt since u) (O4 Second))
 again s p since u Second = opens_on s p (announced_at s p)
 
 -- a step of program p at each label; at the others no step is allowed, and nothing happens
 abbrev pub step_at : State → ℕ → Position → Stepped
 step_at s p Idle = stepped s GoesOn
-step_at s p (Opening since u O1) = stepped (put s p (seat (Opening since u O2) (announcement.Help u))) GoesOn
-step_at s p (Opening since u O2) = cond (is_mark s.current u) (goes s p (Opening since u O3)) (goes s p (Opening since u (O4 First)))
-step_at s p (Opening since u O3) =
-    cond (asks u (announced_at s p)) (opens_on s p (announcement.Plain u)) (opens_on s p (announced_at s p))
-step_at s p (Opening since u (O4 round)) = goes s p (Opening since u (O5 s.current round))
-step_at s p (Opening since u (O5 w round)) =
-    cond (asks u (announced_at s p))
-    (stepped (put s p (seat (Opening since w (O6 round)) (announcement.Help w))) GoesOn)
+step_at s p (Opening t O1) = stepped (put s p (seat (Opening t O2) (announcement.Help t.u))) GoesOn
+step_at s p (Opening t O2) = cond (is_mark s.current t.u) (goes s p (Opening t O3)) (goes s p (Opening t (O4 First)))
+step_at s p (Opening t O3) =
+    cond (asks t.u (announced_at s p)) (opens_on s p (announcement.Plain t.u)) (opens_on s p (announced_at s p))
+step_at s p (Opening t (O4 round)) = goes s p (Opening t (O5 s.current round))
+step_at s p (Opening t (O5 w round)) =
+    cond (asks t.u (announced_at s p))
+    (stepped (put s p (seat (Opening (attempt t.since w) (O6 round)) (announcement.Help w))) GoesOn)
     (opens_on s p (announced_at s p))
-step_at s p (Opening since u (O6 round)) = cond (is_mark s.current u) (goes s p (Opening since u O3)) (again s p since u round)
+step_at s p (Opening t (O6 round)) = cond (is_mark s.current t.u) (goes s p (Opening t O3)) (again s p t.since t.u round)
 step_at s p (Open v) = stepped s GoesOn
-step_at s p (Offering r over i F1) = searches s p r over i (slot_at s i)
-step_at s p (Offering r over i (F2 x)) =
+step_at s p (Offering o F1) = searches s p o.root o.over o.slot (slot_at s o.slot)
+step_at s p (Offering o (F2 x)) =
     cond (flagged (announced_at s x))
-    (cond (is_mark s.current over)
-    (goes (announce s x (announcement.Plain over)) p (Offering r over i (next_or s.programs x (F2 (x + 1)) F3)))
-    (stales s p over i))
-    (goes s p (Offering r over i (next_or s.programs x (F2 (x + 1)) F3)))
-step_at s p (Offering r over i F3) =
-    cond (is_mark s.current over)
-    (stepped (go_to (advance s (mark (serial_in (slot_at s i)) i)) p (Offered over)) (Accepted (serial_in (slot_at s i))))
-    (stales s p over i)
+    (cond (is_mark s.current o.over)
+    (goes (announce s x (announcement.Plain o.over)) p (Offering o (next_or s.programs x (F2 (x + 1)) F3)))
+    (stales s p o.over o.slot))
+    (goes s p (Offering o (next_or s.programs x (F2 (x + 1)) F3)))
+step_at s p (Offering o F3) =
+    cond (is_mark s.current o.over)
+    (stepped (go_to (advance s (mark (serial_in (slot_at s o.slot)) o.slot)) p (Offered o.over)) (Accepted (serial_in (slot_at s o.slot))))
+    (stales s p o.over o.slot)
 step_at s p (Offered v) = stepped s GoesOn
 step_at s p (Closing v C1) = stepped (put s p (seat (Closing v C2) announcement.Empty)) GoesOn
 step_at s p (Closing v C2) = cond (is_mark s.current v) (stepped (go_to s p Idle) Nothing) (goes s p (Closing v C3))
@@ -173,11 +173,11 @@ version_had at = version_or (about at)
 
 -- open begins with u the current version
 abbrev pub opens : State → ℕ → State
-opens s p = go_to s p (Opening s.current.serial s.current O1)
+opens s p = go_to s p (Opening (attempt s.current.serial s.current) O1)
 
 -- publish begins at slot 0
 abbrev pub publishes : State → ℕ → ℕ → State
-publishes s p r = go_to s p (Offering r (version_had (position_at s p)) 0 F1)
+publishes s p r = go_to s p (Offering (offer r (version_had (position_at s p)) 0) F1)
 
 -- close begins with the own announcement still there
 abbrev pub closes : State → ℕ → State

@@ -26,11 +26,11 @@ pub data Past : Type 0 where
 -- what a program may have left behind, by its label
 abbrev pub past_of : Position → Past
 past_of Idle = whole
-past_of (Opening since u (O4 round)) = lost
-past_of (Opening since u (O5 w round)) = lost
-past_of (Opening since u _) = hopes u
+past_of (Opening t (O4 round)) = lost
+past_of (Opening t (O5 w round)) = lost
+past_of (Opening t _) = hopes t.u
 past_of (Open v) = uses v
-past_of (Offering r over i at) = uses over
+past_of (Offering o at) = uses o.over
 past_of (Offered v) = done v
 past_of (Closing v at) = done v
 

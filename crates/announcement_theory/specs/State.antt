@@ -6,6 +6,8 @@ use Rattle.announcement_theory.specs.declared.slot.Status.TheVariants.{Usable}
 use Rattle.announcement_theory.specs.declared.slot.Stored.{Stored}
 use Rattle.announcement_theory.specs.declared.announcement.Announcement.{Announcement}
 use Rattle.announcement_theory.specs.declared.announcement.Announcement.TheVariants as announcement
+use Rattle.announcement_theory.specs.declared.position.Attempt.{Attempt}
+use Rattle.announcement_theory.specs.declared.position.Offer.{Offer}
 use Rattle.announcement_theory.specs.declared.position.Position.{Position}
 use Rattle.announcement_theory.specs.declared.position.Position.TheVariants.{Idle}
 use Rattle.announcement_theory.specs.declared.seat.Seat.{Seat}
@@ -13,6 +15,14 @@ use Rattle.announcement_theory.specs.declared.seat.Seat.{Seat}
 -- the version with serial n in slot j
 abbrev pub mark : ℕ → ℕ → Mark
 mark n j = record { serial = n; slot = j }
+
+-- an open that began when serial n was current, and announced u last
+abbrev pub attempt : ℕ → Mark → Attempt
+attempt n u = record { since = n; u = u }
+
+-- an offer of root r over a version, by slot i
+abbrev pub offer : ℕ → Mark → ℕ → Offer
+offer r over i = record { root = r; over = over; slot = i }
 
 -- the place of a program that stands at a position and has an announcement
 abbrev pub seat : Position → Announcement → Seat

@@ -22,10 +22,10 @@ pub data Manner : Type 0 where
 -- how a program announces at each label
 abbrev pub manner : Position → Manner
 manner Idle = silent
-manner (Opening since u O1) = silent
-manner (Opening since u _) = asking u
+manner (Opening t O1) = silent
+manner (Opening t _) = asking t.u
 manner (Open v) = holding v
-manner (Offering r over i at) = holding over
+manner (Offering o at) = holding o.over
 manner (Offered v) = holding v
 manner (Closing v C1) = holding v
 manner (Closing v _) = silent
@@ -45,15 +45,15 @@ fits (holding u) (announcement.Help v) = false
 -- the version that a program is about
 abbrev pub about : Position → Option Mark
 about Idle = None
-about (Opening since u at) = Some u
+about (Opening t at) = Some t.u
 about (Open v) = Some v
-about (Offering r over i at) = Some over
+about (Offering o at) = Some o.over
 about (Offered v) = Some v
 about (Closing v at) = Some v
 
 -- the version read at O4 and not announced yet
 abbrev pub spare : Position → Option Mark
-spare (Opening since u (O5 w round)) = Some w
+spare (Opening t (O5 w round)) = Some w
 spare _ = None
 
 -- a program mentions a version: it is about it, has just read it, or announces it
@@ -62,7 +62,7 @@ Mentions x v = (about x.position ≡ Some v) ⊎ ((spare x.position ≡ Some v) 
 
 -- the serial that was current when an open began, 0 elsewhere
 abbrev pub since : Position → ℕ
-since (Opening n u at) = n
+since (Opening t at) = t.since
 since _ = 0
 
 -- how far an open is: about to take the flag off (O3), about to read V (O4), or with a version read from V (w at O5, u at O6)
@@ -74,10 +74,10 @@ pub data Opener : Type 0 where
 
 -- how far the open of a program is
 abbrev pub opener : Position → Opener
-opener (Opening since u O3) = ready
-opener (Opening since u (O4 round)) = seeking round
-opener (Opening since u (O5 w round)) = found w round
-opener (Opening since u (O6 round)) = found u round
+opener (Opening t O3) = ready
+opener (Opening t (O4 round)) = seeking round
+opener (Opening t (O5 w round)) = found w round
+opener (Opening t (O6 round)) = found t.u round
 opener _ = calm
 
 -- an open that one who offers over the current version v has passed: in round 1, and what it read is v
@@ -105,9 +105,9 @@ pub data Offerer : Type 0 where
 
 -- how far the offer of a program is, where there are `all` programs: F3 has passed them all
 abbrev pub offerer : ℕ → Position → Offerer
-offerer all (Offering r over i F1) = seeks over i
-offerer all (Offering r over i (F2 x)) = owns r over i x
-offerer all (Offering r over i F3) = owns r over i all
+offerer all (Offering o F1) = seeks o.over o.slot
+offerer all (Offering o (F2 x)) = owns o.root o.over o.slot x
+offerer all (Offering o F3) = owns o.root o.over o.slot all
 offerer all _ = aside
 
 -- the slot that an offer owns
@@ -147,8 +147,8 @@ closer all _ = stays
 
 -- slots and programs that a position names are there
 abbrev pub ranged : ℕ → Position → Bool
-ranged all (Offering r over i (F2 x)) = nat_le i (3 * all) && nat_lt x all
-ranged all (Offering r over i _) = nat_le i (3 * all)
+ranged all (Offering o (F2 x)) = nat_le o.slot (3 * all) && nat_lt x all
+ranged all (Offering o _) = nat_le o.slot (3 * all)
 ranged all (Closing v (C4 x)) = nat_lt x all
 ranged all (Closing v (C6 x)) = nat_lt x all
 ranged all _ = true

@@ -15,6 +15,6 @@ mod slot;
 
 pub use announcement::Announcement;
 pub use mark::Mark;
-pub use position::{CloseLabel, Label, OfferLabel, OpenLabel, Position, Round};
+pub use position::{Attempt, CloseLabel, Label, Offer, OfferLabel, OpenLabel, Position, Round};
 pub use seat::Seat;
 pub use slot::{Status, Stored};

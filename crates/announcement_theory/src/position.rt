@@ -8,32 +8,33 @@ pub enum Round {
     Second,
 }
 
+// What an open remembers at each label: the serial that was current when it began, and u, the version last announced.
+#[derive(Clone, Copy, PartialEq, Eq, Debug)]
+pub struct Attempt {
+    pub since: u32,
+    pub u: Mark,
+}
+
+// What an offer remembers at each label: its root, the version to be replaced, and the slot that is tried or was filled.
+#[derive(Clone, Copy, PartialEq, Eq, Debug)]
+pub struct Offer {
+    pub root: u32,
+    pub over: Mark,
+    pub slot: u32,
+}
+
 // Where a program stands: between operations, or in one, at a label, with what it has to remember there.
 #[derive(Clone, Copy, PartialEq, Eq, Debug)]
 pub enum Position {
     Idle,
-    // Opens: `since` is the serial that was current when it began, u the version last announced.
-    Opening {
-        since: u32,
-        u: Mark,
-        at: OpenLabel,
-    },
+    Opening { attempt: Attempt, at: OpenLabel },
     // Has this version.
     Open(Mark),
-    // Offers: `over` is the version to be replaced, and `slot` the slot that is tried or was filled.
-    Offering {
-        root: u32,
-        over: Mark,
-        slot: u32,
-        at: OfferLabel,
-    },
+    Offering { offer: Offer, at: OfferLabel },
     // Has offered, over this version, and still has it.
     Offered(Mark),
     // Closes this version.
-    Closing {
-        version: Mark,
-        at: CloseLabel,
-    },
+    Closing { version: Mark, at: CloseLabel },
 }
 
 // The labels of an open, w being the version read after the last announcement.

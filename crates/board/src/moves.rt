@@ -4,7 +4,7 @@ ghost use Rattle.board.specs.Boards.{state_of};
 ghost use Rattle.board.specs.Steps.{Steps};
 
 use crate::board::Board;
-use announcement_theory::{CloseLabel, Mark, OfferLabel, OpenLabel, Position};
+use announcement_theory::{Attempt, CloseLabel, Mark, Offer, OfferLabel, OpenLabel, Position};
 use keeper::Outcome;
 
 // The version that a program is about. An idle one is about none, and is not asked: an Option would add a case that never comes.
@@ -13,8 +13,8 @@ fn version_had(position: Position) -> Mark
 {
     match position {
         Position::Idle => Mark { serial: 0, slot: 0 },
-        Position::Opening { u, .. } => u,
-        Position::Offering { over, .. } => over,
+        Position::Opening { attempt, .. } => attempt.u,
+        Position::Offering { offer, .. } => offer.over,
         Position::Open(version) | Position::Offered(version) => version,
         Position::Closing { version, .. } => version,
     }
@@ -26,9 +26,9 @@ impl Board {
         ensures { state_of self.new ≡ opens (state_of self.old) p }
     {
         let u = self.current;
-        let since = u.serial;
+        let attempt = Attempt { since: u.serial, u };
         let at = OpenLabel::O1;
-        self.go_to(p, Position::Opening { since, u, at });
+        self.go_to(p, Position::Opening { attempt, at });
     }
 
     // A publish begins at slot 0.
@@ -36,15 +36,13 @@ impl Board {
         ensures { state_of self.new ≡ publishes (state_of self.old) p root }
     {
         let over = version_had(self.seat_at(p).position);
-        self.go_to(
-            p,
-            Position::Offering {
-                root,
-                over,
-                slot: 0,
-                at: OfferLabel::F1,
-            },
-        );
+        let offer = Offer {
+            root,
+            over,
+            slot: 0,
+        };
+        let at = OfferLabel::F1;
+        self.go_to(p, Position::Offering { offer, at });
     }
 
     // A close begins by giving up the announcement.
@@ -65,13 +63,8 @@ impl Board {
         }
         // A position is copied, compared and shown, so it is data and no closure.
         Some(match self.seat_at(p).position {
-            Position::Opening { since, u, at } => self.open_step(p, since, u, at),
-            Position::Offering {
-                root,
-                over,
-                slot,
-                at,
-            } => self.offer_step(p, root, over, slot, at),
+            Position::Opening { attempt, at } => self.open_step(p, attempt, at),
+            Position::Offering { offer, at } => self.offer_step(p, offer, at),
             Position::Closing { version, at } => self.close_step(p, version, at),
             Position::Idle | Position::Open(_) | Position::Offered(_) => Outcome::GoesOn,
         })

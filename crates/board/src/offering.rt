@@ -7,7 +7,7 @@ ghost use Rattle.board.specs.Steps.{Took, accepts};
 
 use crate::board::Board;
 use crate::marks::serial_in;
-use announcement_theory::{Announcement, Mark, OfferLabel, Position, Status, Stored};
+use announcement_theory::{Announcement, Mark, Offer, OfferLabel, Position, Status, Stored};
 use keeper::Outcome;
 
 impl Board {
@@ -20,51 +20,39 @@ impl Board {
     }
 
     // An offer gives up: its own slot is emptied.
-    fn gives_up(&mut self, p: u32, over: Mark, slot: u32) -> Outcome
-        ensures { Took (stales (state_of self.old) p over slot) (state_of self.new) result }
+    fn gives_up(&mut self, p: u32, offer: Offer) -> Outcome
+        ensures { Took (stales (state_of self.old) p offer.over offer.slot) (state_of self.new) result }
     {
-        self.fill(slot, None);
-        self.ends(p, Position::Offered(over), Outcome::Stale)
+        self.fill(offer.slot, None);
+        self.ends(p, Position::Offered(offer.over), Outcome::Stale)
     }
 
     // A step of an offer.
-    pub(crate) fn offer_step(
-        &mut self,
-        p: u32,
-        root: u32,
-        over: Mark,
-        slot: u32,
-        at: OfferLabel,
-    ) -> Outcome
+    pub(crate) fn offer_step(&mut self, p: u32, offer: Offer, at: OfferLabel) -> Outcome
         requires { self.old.current.serial < 4294967295 }
-        ensures { Took (step_at (state_of self.old) p (Offering root over slot at)) (state_of self.new) result }
+        ensures { Took (step_at (state_of self.old) p (Offering offer at)) (state_of self.new) result }
     {
         match at {
-            OfferLabel::F1 => self.search_step(p, root, over, slot),
-            OfferLabel::F2 { program } => self.help_step(p, root, over, slot, program),
-            OfferLabel::F3 if self.current == over => self.accepts(p, over, slot),
-            OfferLabel::F3 => self.gives_up(p, over, slot),
+            OfferLabel::F1 => self.search_step(p, offer),
+            OfferLabel::F2 { program } => self.help_step(p, offer, program),
+            OfferLabel::F3 if self.current == offer.over => self.accepts(p, offer),
+            OfferLabel::F3 => self.gives_up(p, offer),
         }
     }
 
     // An offer goes on at another label.
-    fn offers_at(&mut self, p: u32, root: u32, over: Mark, slot: u32, at: OfferLabel) -> Outcome
-        ensures { Took (goes (state_of self.old) p (Offering root over slot at)) (state_of self.new) result }
+    fn offers_at(&mut self, p: u32, offer: Offer, at: OfferLabel) -> Outcome
+        ensures { Took (goes (state_of self.old) p (Offering offer at)) (state_of self.new) result }
     {
-        let position = Position::Offering {
-            root,
-            over,
-            slot,
-            at,
-        };
-        self.goes(p, position)
+        self.goes(p, Position::Offering { offer, at })
     }
 
     // F1: an empty slot is filled with the version to be; after the last slot the offer gives up.
-    fn search_step(&mut self, p: u32, root: u32, over: Mark, slot: u32) -> Outcome
+    fn search_step(&mut self, p: u32, offer: Offer) -> Outcome
         requires { self.old.current.serial < 4294967295 }
-        ensures { Took (step_at (state_of self.old) p (Offering root over slot F1)) (state_of self.new) result }
+        ensures { Took (step_at (state_of self.old) p (Offering offer F1)) (state_of self.new) result }
     {
+        let Offer { root, over, slot } = offer;
         let serial = self.current.serial + 1;
         match self.slot_at(slot) {
             None => {
@@ -76,10 +64,11 @@ impl Board {
                         status: Status::Usable,
                     }),
                 );
-                self.offers_at(p, root, over, slot, OfferLabel::F2 { program: 0 })
+                self.offers_at(p, offer, OfferLabel::F2 { program: 0 })
             }
             Some(_) if slot < 3 * self.programs => {
-                self.offers_at(p, root, over, slot + 1, OfferLabel::F1)
+                let slot = slot + 1;
+                self.offers_at(p, Offer { slot, ..offer }, OfferLabel::F1)
             }
             Some(_) => self.ends(p, Position::Offered(over), Outcome::Stale),
         }
@@ -96,24 +85,25 @@ impl Board {
     }
 
     // F2: a program that asks for help is bound to the version offered over, while that is current.
-    fn help_step(&mut self, p: u32, root: u32, over: Mark, slot: u32, program: u32) -> Outcome
-        ensures { Took (step_at (state_of self.old) p (Offering root over slot (F2 program))) (state_of self.new) result }
+    fn help_step(&mut self, p: u32, offer: Offer, program: u32) -> Outcome
+        ensures { Took (step_at (state_of self.old) p (Offering offer (F2 program))) (state_of self.new) result }
     {
         let at = self.after_help(program);
         if !matches!(self.seat_at(program).announced, Announcement::Help(_)) {
-            return self.offers_at(p, root, over, slot, at);
+            return self.offers_at(p, offer, at);
         }
-        if self.current != over {
-            return self.gives_up(p, over, slot);
+        if self.current != offer.over {
+            return self.gives_up(p, offer);
         }
-        self.announce(program, Announcement::Plain(over));
-        self.offers_at(p, root, over, slot, at)
+        self.announce(program, Announcement::Plain(offer.over));
+        self.offers_at(p, offer, at)
     }
 
     // F3 over the current version: the version in the slot becomes current.
-    fn accepts(&mut self, p: u32, over: Mark, slot: u32) -> Outcome
-        ensures { Took (accepts (state_of self.old) p over slot) (state_of self.new) result }
+    fn accepts(&mut self, p: u32, offer: Offer) -> Outcome
+        ensures { Took (accepts (state_of self.old) p offer.over offer.slot) (state_of self.new) result }
     {
+        let Offer { over, slot, .. } = offer;
         let serial = serial_in(self.slot_at(slot));
         self.advance(Mark { serial, slot });
         self.ends(p, Position::Offered(over), Outcome::Accepted(serial))

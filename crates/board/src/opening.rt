@@ -10,7 +10,7 @@ ghost use Rattle.board.specs.Steps.{Took};
 
 use crate::board::Board;
 use crate::marks::version_in;
-use announcement_theory::{Announcement, Mark, OpenLabel, Position, Round, Seat};
+use announcement_theory::{Announcement, Attempt, OpenLabel, Position, Round, Seat};
 use keeper::Outcome;
 
 impl Board {
@@ -58,58 +58,59 @@ impl Board {
     }
 
     // An open goes on at another label.
-    fn opens_at(&mut self, p: u32, since: u32, u: Mark, at: OpenLabel) -> Outcome
-        ensures { Took (goes (state_of self.old) p (Opening since u at)) (state_of self.new) result }
+    fn opens_at(&mut self, p: u32, attempt: Attempt, at: OpenLabel) -> Outcome
+        ensures { Took (goes (state_of self.old) p (Opening attempt at)) (state_of self.new) result }
     {
-        self.goes(p, Position::Opening { since, u, at })
+        self.goes(p, Position::Opening { attempt, at })
     }
 
-    // An open asks to be helped to u, and goes on at another label.
-    fn asks_at(&mut self, p: u32, since: u32, u: Mark, at: OpenLabel) -> Outcome
-        ensures { Took (stepped (put (state_of self.old) p (seat (Opening since u at) (announcement.Help u))) GoesOn) (state_of self.new) result }
+    // An open asks to be helped to its version, and goes on at another label.
+    fn asks_at(&mut self, p: u32, attempt: Attempt, at: OpenLabel) -> Outcome
+        ensures { Took (stepped (put (state_of self.old) p (seat (Opening attempt at) (announcement.Help attempt.u))) GoesOn) (state_of self.new) result }
     {
-        let position = Position::Opening { since, u, at };
-        self.goes_announcing(p, position, Announcement::Help(u))
+        let position = Position::Opening { attempt, at };
+        self.goes_announcing(p, position, Announcement::Help(attempt.u))
     }
 
     // An open whose version was replaced goes into its first round, and from there into its second.
-    fn first_round(&mut self, p: u32, since: u32, u: Mark) -> Outcome
-        ensures { Took (goes (state_of self.old) p (Opening since u (O4 First))) (state_of self.new) result }
+    fn first_round(&mut self, p: u32, attempt: Attempt) -> Outcome
+        ensures { Took (goes (state_of self.old) p (Opening attempt (O4 First))) (state_of self.new) result }
     {
         let round = Round::First;
-        self.opens_at(p, since, u, OpenLabel::O4 { round })
+        self.opens_at(p, attempt, OpenLabel::O4 { round })
     }
 
-    fn second_round(&mut self, p: u32, since: u32, u: Mark) -> Outcome
-        ensures { Took (goes (state_of self.old) p (Opening since u (O4 Second))) (state_of self.new) result }
+    fn second_round(&mut self, p: u32, attempt: Attempt) -> Outcome
+        ensures { Took (goes (state_of self.old) p (Opening attempt (O4 Second))) (state_of self.new) result }
     {
         let round = Round::Second;
-        self.opens_at(p, since, u, OpenLabel::O4 { round })
+        self.opens_at(p, attempt, OpenLabel::O4 { round })
     }
 
     // A step of an open.
-    pub(crate) fn open_step(&mut self, p: u32, since: u32, u: Mark, at: OpenLabel) -> Outcome
-        ensures { Took (step_at (state_of self.old) p (Opening since u at)) (state_of self.new) result }
+    pub(crate) fn open_step(&mut self, p: u32, attempt: Attempt, at: OpenLabel) -> Outcome
+        ensures { Took (step_at (state_of self.old) p (Opening attempt at)) (state_of self.new) result }
     {
         let announced = self.seat_at(p).announced;
         let current = self.current;
+        let u = attempt.u;
         match at {
-            OpenLabel::O1 => self.asks_at(p, since, u, OpenLabel::O2),
-            OpenLabel::O2 if current == u => self.opens_at(p, since, u, OpenLabel::O3),
-            OpenLabel::O2 => self.first_round(p, since, u),
+            OpenLabel::O1 => self.asks_at(p, attempt, OpenLabel::O2),
+            OpenLabel::O2 if current == u => self.opens_at(p, attempt, OpenLabel::O3),
+            OpenLabel::O2 => self.first_round(p, attempt),
             OpenLabel::O3 if announced == Announcement::Help(u) => {
                 self.opens_on(p, Announcement::Plain(u))
             }
             OpenLabel::O4 { round } => {
-                self.opens_at(p, since, u, OpenLabel::O5 { w: current, round })
+                self.opens_at(p, attempt, OpenLabel::O5 { w: current, round })
             }
             OpenLabel::O5 { w, round } if announced == Announcement::Help(u) => {
-                self.asks_at(p, since, w, OpenLabel::O6 { round })
+                self.asks_at(p, Attempt { u: w, ..attempt }, OpenLabel::O6 { round })
             }
-            OpenLabel::O6 { .. } if current == u => self.opens_at(p, since, u, OpenLabel::O3),
+            OpenLabel::O6 { .. } if current == u => self.opens_at(p, attempt, OpenLabel::O3),
             OpenLabel::O6 {
                 round: Round::First,
-            } => self.second_round(p, since, u),
+            } => self.second_round(p, attempt),
             // Somebody has helped.
             OpenLabel::O3 | OpenLabel::O5 { .. } | OpenLabel::O6 { .. } => {
                 self.opens_on(p, announced)

@@ -48,9 +48,9 @@ nowhere k p f e = go (nat_lt p k.board.programs) refl e
 
 somewhere : (at : Position) (a : Announcement) → moving (stage_from a at) ≡ true → is_some (announcement_label at) ≡ true
 somewhere Nowhere a e = e
-somewhere (Opening since u at) a e = refl
+somewhere (Opening t at) a e = refl
 somewhere (Open v) a e = e
-somewhere (Offering r over i at) a e = refl
+somewhere (Offering o at) a e = refl
 somewhere (Offered v) a e = e
 somewhere (Closing v at) a e = refl
 
