@@ -6,6 +6,7 @@ use Rattle.announcement_theory.specs.declared.position.Position.TheVariants.{Ope
 use Rattle.announcement_theory.specs.declared.position.OpenLabel.TheVariants.{O1}
 use Rattle.announcement_theory.specs.declared.position.OfferLabel.TheVariants.{F1}
 use Rattle.announcement_theory.specs.declared.position.CloseLabel.TheVariants.{C1}
+use Rattle.announcement_theory.specs.State.{attempt, offer}
 use Rattle.announcement_theory.specs.Means.{left_at}
 use Rattle.announcement_theory.specs.Longest.{Leads, Reaches, Longest, Ended}
 
