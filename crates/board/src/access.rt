@@ -69,27 +69,15 @@ impl Board {
     pub(crate) fn go_to(&mut self, p: u32, position: Position)
         ensures { state_of self.new ≡ go_to (state_of self.old) p position }
     {
-        let announced = self.seat_at(p).announced;
-        self.put(
-            p,
-            Seat {
-                position,
-                announced,
-            },
-        );
+        let seat = self.seat_at(p);
+        self.put(p, Seat { position, ..seat });
     }
 
     // Program x gets another announcement where it stands.
     pub(crate) fn announce(&mut self, x: u32, announced: Announcement)
         ensures { state_of self.new ≡ announce (state_of self.old) x announced }
     {
-        let position = self.seat_at(x).position;
-        self.put(
-            x,
-            Seat {
-                position,
-                announced,
-            },
-        );
+        let seat = self.seat_at(x);
+        self.put(x, Seat { announced, ..seat });
     }
 }

@@ -18,8 +18,7 @@ impl Board {
     pub(crate) fn goes(&mut self, p: u32, position: Position) -> Outcome
         ensures { Took (goes (state_of self.old) p position) (state_of self.new) result }
     {
-        self.go_to(p, position);
-        Outcome::GoesOn
+        self.ends(p, position, Outcome::GoesOn)
     }
 
     // The operation goes on at another label, with another announcement.
@@ -72,18 +71,10 @@ impl Board {
         self.goes_announcing(p, position, Announcement::Help(attempt.u))
     }
 
-    // An open whose version was replaced goes into its first round, and from there into its second.
-    fn first_round(&mut self, p: u32, attempt: Attempt) -> Outcome
-        ensures { Took (goes (state_of self.old) p (Opening attempt (O4 First))) (state_of self.new) result }
+    // An open whose version was replaced goes into a round.
+    fn tries_again(&mut self, p: u32, attempt: Attempt, round: Round) -> Outcome
+        ensures { Took (goes (state_of self.old) p (Opening attempt (O4 round))) (state_of self.new) result }
     {
-        let round = Round::First;
-        self.opens_at(p, attempt, OpenLabel::O4 { round })
-    }
-
-    fn second_round(&mut self, p: u32, attempt: Attempt) -> Outcome
-        ensures { Took (goes (state_of self.old) p (Opening attempt (O4 Second))) (state_of self.new) result }
-    {
-        let round = Round::Second;
         self.opens_at(p, attempt, OpenLabel::O4 { round })
     }
 
@@ -97,7 +88,7 @@ impl Board {
         match at {
             OpenLabel::O1 => self.asks_at(p, attempt, OpenLabel::O2),
             OpenLabel::O2 if current == u => self.opens_at(p, attempt, OpenLabel::O3),
-            OpenLabel::O2 => self.first_round(p, attempt),
+            OpenLabel::O2 => self.tries_again(p, attempt, Round::First),
             OpenLabel::O3 if announced == Announcement::Help(u) => {
                 self.opens_on(p, Announcement::Plain(u))
             }
@@ -110,7 +101,7 @@ impl Board {
             OpenLabel::O6 { .. } if current == u => self.opens_at(p, attempt, OpenLabel::O3),
             OpenLabel::O6 {
                 round: Round::First,
-            } => self.second_round(p, attempt),
+            } => self.tries_again(p, attempt, Round::Second),
             // Somebody has helped.
             OpenLabel::O3 | OpenLabel::O5 { .. } | OpenLabel::O6 { .. } => {
                 self.opens_on(p, announced)

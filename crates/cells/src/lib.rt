@@ -3,6 +3,9 @@
 //
 // Cells, leaves and heads are parameters of their own: a look borrows cells and leaves to read, letting go and a sweep cells to change,
 // a build both to change. One struct with all three would ask every caller for more than its call needs.
+//
+// Each call is a pair of functions: of the inner one the exact effect is proved, so that a wrong body is refused there; the public one
+// adds, by one lemma, what is promised of a sound memory.
 #![tactic(auto)]
 
 // Filling the first free cell.

@@ -41,6 +41,7 @@ fn may_raise(cells: &[Cell], fields: [Field; 4], f: Field) -> bool
 pub(crate) fn may_raise_all(cells: &[Cell], fields: [Field; 4]) -> bool
     ensures { result ≡ all_raisable cells.now fields }
 {
+    // A loop, since the borrow checker covers no closure that reads both while one is gone through.
     for field in fields {
         if !may_raise(cells, fields, field) {
             return false;

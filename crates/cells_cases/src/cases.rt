@@ -27,6 +27,7 @@ const ALOFT: Placement = Placement {
     z: 1_200_000,
 };
 
+// Expected refusals are written out here, and not taken from the code under test.
 const NO_FREE_CELL: Fault = Fault {
     refusal: Refusal::NoFreeCell,
     layer: Layer::Cells,

@@ -1,9 +1,10 @@
 // Worked cases of the memory of cells, with both kinds of leaf.
 #![tactic(auto)]
 
-// Calls in a row, over any memory lent.
+// Worked cases, as tests.
 #[cfg(test)]
 mod cases;
+// Calls in a row, over any memory lent.
 mod round;
 
 pub use round::make_and_sweep;

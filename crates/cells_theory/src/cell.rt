@@ -1,4 +1,5 @@
-// What stands for no cell, as a link and as a head. The memory that the host lends is written so, 32 bits a link: no room for an Option.
+// What stands for no cell, as a link and as a head. The rules of the memory that the host lends say so, 32 bits a link; and a head becomes
+// a link as it is. So neither is an Option.
 pub const NO_LINK: u32 = 4_294_967_295;
 
 // The highest count that may still be raised.

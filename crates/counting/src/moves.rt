@@ -51,7 +51,7 @@ impl Counting {
     {
         match rows::row_of(&self.rows[..=self.programs as usize], serial) {
             Some(i) => i,
-            None => unreachable(),
+            None => unreachable!(),
         }
     }
 
@@ -63,7 +63,7 @@ impl Counting {
     {
         match rows::vacant(&self.rows[..=self.programs as usize]) {
             Some(i) => i,
-            None => unreachable(),
+            None => unreachable!(),
         }
     }
 

@@ -25,7 +25,7 @@ fn perform_or_refuse<K: Screen>(keeper: &mut K, call: Call) -> Result<Answer, Fa
             let outcome = keeper.step(program)?;
             match label {
                 Some(label) => Ok(Answer::Stepped { label, outcome }),
-                None => unreachable(),
+                None => unreachable!(),
             }
         }
         Call::Close(program) => {

@@ -20,6 +20,7 @@ impl<K: Keeper> Exchange<K> {
         requires { on_places call ≡ true }
         ensures { Did call result (world_of K.Enquiry.meaning self.old cells.old leaves.old) (world_of K.Enquiry.meaning self.new cells.new leaves.new) }
     {
+        // Apart from `dispatch`, since nine arms with their calls are more than one function should hold.
         match call {
             Call::Root { program, place } => self.root(program, place, cells, leaves)?,
             Call::Down {
@@ -37,7 +38,7 @@ impl<K: Keeper> Exchange<K> {
                 sources,
                 leaf,
             } => self.build(program, place, sources, leaf, cells, leaves)?,
-            _ => unreachable(),
+            _ => unreachable!(),
         }
         Ok(Answer::Done)
     }
@@ -65,10 +66,14 @@ impl<K: Keeper> Exchange<K> {
                 Ok(Answer::Begun)
             }
             Call::Step(program) => Ok(Answer::Stepped(self.step(program, cells, leaves)?)),
-            Call::Sweep => match self.sweep(cells, leaves)? {
-                true => Ok(Answer::Swept),
-                false => Ok(Answer::Unswept),
-            },
+            Call::Sweep => {
+                let swept = self.sweep(cells, leaves)?;
+                Ok(if swept {
+                    Answer::Swept
+                } else {
+                    Answer::Unswept
+                })
+            }
             _ => self.dispatch_on_places(call, cells, leaves),
         }
     }

@@ -13,7 +13,7 @@ use crate::faults::refused;
 use crate::unmade::Unmade;
 use cells_theory::{Cell, Heads};
 use exchange_theory::{Desk, Places, Row};
-use keeper::{Enquiry, Keeper, Refusal, within_limits};
+use keeper::{Enquiry, Keeper, Refusal, Version, within_limits};
 
 // Whether so many cells and leaves are a memory: as many of both.
 fn are_memory(size: usize, leaves: usize) -> bool
@@ -29,7 +29,7 @@ fn is_idle<K: Enquiry>(keeper: &K, p: u32) -> bool
 {
     match keeper.stage(p) {
         Ok(stage) => stage.is_idle(),
-        Err(_) => unreachable(),
+        Err(_) => unreachable!(),
     }
 }
 
@@ -44,8 +44,7 @@ fn are_idle<K: Enquiry>(keeper: &K) -> bool
 fn is_new<K: Enquiry>(keeper: &K) -> bool
     ensures { result ≡ new_keeper (K.Enquiry.meaning keeper.now) }
 {
-    let current = keeper.current();
-    current.serial == 0 && current.root == 0 && are_idle(keeper)
+    keeper.current() == Version { serial: 0, root: 0 } && are_idle(keeper)
 }
 
 // Whether an exchange can be made over the keeper and so many cells and leaves.

@@ -1,15 +1,12 @@
 -- From serials to moments: a serial from the one that was current at a program's call of open up to the present one was current at a
 -- moment between the two.
-use Rattle.std.proofs.Common.{◌≡◌, ℕ, ◌+◌, ◌≤◌, false, cond, ◌⊎◌, List, [], ◌∷◌, Some, Ok, Err, Result, sym, refl, ap, ◌∙◌, inl, inr, ⊎_elim, arith}
+use Rattle.std.proofs.Common.{◌≡◌, ℕ, ◌+◌, ◌≤◌, false, cond, ◌⊎◌, List, [], ◌∷◌, Ok, Err, Result, sym, refl, ap, ◌∙◌, inl, inr, ⊎_elim, arith}
 use Rattle.std.proofs.lemmas.Bool.{cases_eq, eq-eqb, ne_eqb}
-use Rattle.std.proofs.lemmas.Option.{none-some}
-use Rattle.keeper.specs.declared.stage.Stage.{Stage}
-use Rattle.keeper.specs.declared.stage.Stage.TheVariants.{Idle, Opening, Open, Offering, Offered, Closing}
-use Rattle.keeper.specs.Stages.{has}
 use Rattle.keeper.specs.Meaning.{stage_of}
 use Rattle.keeper.specs.declared.outcome.Outcome.{Outcome}
 use Rattle.keeper.specs.declared.outcome.Outcome.TheVariants.{GoesOn, Opened, Accepted, Stale, Nothing, HandedOut}
 use Rattle.keeper.specs.declared.fault.Fault.{Fault}
+use Rattle.exchange_theory.proofs.Held.{opened_has}
 use Rattle.exchange_theory.specs.declared.calls.Call.{Call}
 use Rattle.exchange_theory.specs.declared.calls.Call.TheVariants as call
 use Rattle.exchange_theory.specs.World.{World}
@@ -19,7 +16,6 @@ use Rattle.exchange_theory.specs.Story.{Story, tell, tell_step, tell_answer}
 use Rattle.exchange_theory.specs.History.{Event, Reached, story}
 use Rattle.exchange_theory.specs.Moments.{Throughout, is_open_of, CurrentSinceOpen, at_last, earlier, OpenedAtMoment, AsTold}
 use Rattle.exchange_theory.specs.Promises.{Always, OpenedWasCurrent}
-use Rattle.exchange_theory.proofs.Meant.{opened_at}
 use Rattle.exchange_theory.proofs.Told.{meant}
 use Rattle.exchange_theory.proofs.Runs.{past}
 
@@ -95,14 +91,6 @@ at_moments leaf (e ∷ h) o = ((λ p s came. let x = o.0 p s came in moment leaf
 
 pub opened_at_moment : {T : Type 0} {leaf : T} {h : List (Event T)} {w : World T} → Reached leaf h w → Throughout (OpenedAtMoment leaf) h
 opened_at_moment {leaf = leaf} {h = h} r = at_moments leaf h (past r).opened
-
-opened_has : (st : Stage) (s : ℕ) → opened_at st ≡ Some s → has st ≡ Some s
-opened_has Idle s e = absurd (none-some s e)
-opened_has (Opening a b) s e = absurd (none-some s e)
-opened_has (Open x) s e = e
-opened_has (Offering r x) s e = e
-opened_has (Offered x) s e = e
-opened_has (Closing x) s e = absurd (none-some s e)
 
 pub as_told : {T : Type 0} {leaf : T} {h : List (Event T)} {w : World T} → Reached leaf h w → AsTold leaf h w
 as_told {w = w} r =

@@ -3,7 +3,7 @@ ghost use Rattle.exchange_theory.specs.Inside.{all_within};
 
 use crate::row::Row;
 
-// N, and a row for each of eight programs. Each place of a row is empty or names one of the N cells, and each offered place is one of
+// N, and a row for each of the eight programs that there can be, in an array, and no Vec, so that no call fails for want of memory. Each place of a row is empty or names one of the N cells, and each offered place is one of
 // eight.
 #[derive(Clone, Copy)]
 pub struct Places {
@@ -24,10 +24,6 @@ impl Places {
         ensures inside { within self.now.cells result ≡ true }
         ensures low { result.offered < 8 }
     {
-        if program < 8 {
-            self.rows[program as usize]
-        } else {
-            Row::NEW
-        }
+        self.rows.get(program as usize).copied().unwrap_or(Row::NEW)
     }
 }

@@ -8,7 +8,7 @@ pub struct Row {
     // Its reading places and its building places. Each is empty or names a cell.
     pub reading: [Option<u32>; 8],
     pub building: [Option<u32>; 8],
-    // The building place that it offered last.
+    // The building place that it offered last. Read only while an offer runs, as the next is while a close does: so neither is an Option.
     pub offered: u32,
     // The root of the version that it closed last.
     pub closing: u32,
@@ -37,7 +37,7 @@ impl Row {
         row
     }
 
-    // The same for one of its building places.
+    // The same for one of its building places: one function for both would take a closure that chooses between two fields.
     #[tactic(auto, using(crate::proofs::Insides::within_building))]
     pub fn with_building(self, place: u32, named: Option<u32>) -> Row
         ensures value { result ≡ row_building place named self }

@@ -97,5 +97,5 @@ pub fn open_among<K: Keeper>(
             });
         }
     }
-    unreachable()
+    unreachable!()
 }

@@ -33,18 +33,13 @@ fn play(rt: &HostRuntime, path: &str) -> io::Result<()> {
 }
 
 // Answers every line but empty ones and comments, one line in memory at a time.
-fn replay<R: BufRead + Drop>(rt: &HostRuntime, mut input: R) -> io::Result<()> {
+fn replay<R: BufRead + Drop>(rt: &HostRuntime, input: R) -> io::Result<()> {
     let mut out = BufWriter::new(rt.alloc(), rt.stdout())?;
     let mut desk = Desk::Nothing;
     let mut tally = Tally::new();
-    let mut line: Vec<u8> = Vec::new(rt.alloc());
-    // Until the input ends, with one line in memory: an iterator over lines would make a new one for each.
-    for _ in 0..u64::MAX {
-        line.clear();
-        if input.read_until(b'\n', &mut line)? == 0 {
-            break;
-        }
-        let text = without_end(line.as_slice());
+    for line in input.split(rt.alloc(), b'\n') {
+        let line = line?;
+        let text = line.as_slice();
         if is_skipped(text) {
             continue;
         }
@@ -54,14 +49,6 @@ fn replay<R: BufRead + Drop>(rt: &HostRuntime, mut input: R) -> io::Result<()> {
     }
     writeln!(out, "{tally}")?;
     out.flush()
-}
-
-// The line without its line feed, which the last one may lack.
-fn without_end(line: &[u8]) -> &[u8] {
-    match line {
-        [text @ .., b'\n'] => text,
-        _ => line,
-    }
 }
 
 // Empty lines and comments are not answered.

@@ -32,7 +32,7 @@ fn with_digit(n: u32, b: u8, most: u32) -> Option<u32>
     if longer <= most { Some(longer) } else { None }
 }
 
-// The number that `text` writes, if it is at most `most`.
+// The number that `text` writes, if it is at most `most`. Not by `parse`, which reads `+7` and `07` too.
 pub(crate) fn figures(text: &[u8], most: u32) -> Option<u32>
     ensures { result ≡ number_in most text.now }
 {
