@@ -2,8 +2,6 @@
 use Rattle.cells_theory.proofs.Looking.{field_promises}
 use Rattle.cells.proofs.looking.field.Goals as goal
 
-pub returns : goal.returns
-returns c = record {
-  answer = c.read_field.ensures;
-  promises = field_promises c.args.cells.now c.args.c c.args.k c.read_field.result c.read_field.ensures;
-}
+pub returns-clause-promises : goal.returns-clause-promises
+returns-clause-promises c =
+    field_promises c.args.cells.now c.args.c c.args.k c.read_field.result c.read_field.ensures

@@ -3,12 +3,8 @@ use Rattle.counting.specs.Bridge.{good}
 use Rattle.counting.proofs.Exact.{close_says}
 use Rattle.counting.proofs.keep.CountingKeeper.close.Goals as goal
 
-pub returns : goal.returns
-returns c =
+pub returns-clause-says : goal.returns-clause-says
+returns-clause-says c =
     let k = c.args.self.now in
     let e = c.begin_close.ensures in
-    record {
-      says = close_says (state_of k) (good k) c.args.program (state_of c.begin_close.new.self) c.begin_close.result e.after e.value;
-      after = e.after;
-      value = e.value;
-    }
+    close_says (state_of k) (good k) c.args.program (state_of c.begin_close.new.self) c.begin_close.result e.after e.value

@@ -3,12 +3,8 @@ use Rattle.counting.specs.Bridge.{good}
 use Rattle.counting.proofs.Exact.{publish_says}
 use Rattle.counting.proofs.keep.CountingKeeper.publish.Goals as goal
 
-pub returns : goal.returns
-returns c =
+pub returns-clause-says : goal.returns-clause-says
+returns-clause-says c =
     let k = c.args.self.now in
     let e = c.begin_publish.ensures in
-    record {
-      says = publish_says (state_of k) (good k) c.args.program c.args.root (state_of c.begin_publish.new.self) c.begin_publish.result e.after e.value;
-      after = e.after;
-      value = e.value;
-    }
+    publish_says (state_of k) (good k) c.args.program c.args.root (state_of c.begin_publish.new.self) c.begin_publish.result e.after e.value

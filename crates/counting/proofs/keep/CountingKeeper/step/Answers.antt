@@ -3,12 +3,8 @@ use Rattle.counting.specs.Bridge.{good}
 use Rattle.counting.proofs.Exact.{step_says}
 use Rattle.counting.proofs.keep.CountingKeeper.step.Goals as goal
 
-pub returns : goal.returns
-returns c =
+pub returns-clause-says : goal.returns-clause-says
+returns-clause-says c =
     let k = c.args.self.now in
     let e = c.take_step.ensures in
-    record {
-      says = step_says (state_of k) (good k) c.args.program (state_of c.take_step.new.self) c.take_step.result e.after e.value;
-      after = e.after;
-      value = e.value;
-    }
+    step_says (state_of k) (good k) c.args.program (state_of c.take_step.new.self) c.take_step.result e.after e.value
