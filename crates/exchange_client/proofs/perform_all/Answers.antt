@@ -4,12 +4,9 @@ use Rattle.std.proofs.lemmas.List.{take_more, take_all}
 use Rattle.exchange_theory.specs.declared.calls.Call.{Call}
 use Rattle.exchange.specs.Worlds.{world_of}
 use Rattle.exchange_client.specs.Rows.{Performed, turned}
-use Rattle.exchange_client.proofs.Rows.{performed_none, performed_more, turned_one, turned_none, turned_low}
+use Rattle.exchange_client.proofs.Rows.{performed_more, turned_one, turned_none, turned_low}
 use Rattle.exchange_client.proofs.perform_all.Goals as goal
 use Rattle.exchange_client.proofs.perform_all.Goals.{then-is_err, else-is_err}
-
-pub loop-call-init : goal.loop-call-init
-loop-call-init g c = (omega arith, λ leaf h r p. performed_none r p)
 
 pub loop-call-preserved : goal.loop-call-preserved
 loop-call-preserved g c =
