@@ -12,7 +12,7 @@ use board::Board;
 use keeper::{Fault, Outcome, Refusal, Stage, check_limits, refused, seated};
 
 impl Announcing {
-    // A keeper for so many programs, whose last serial is `last`.
+    // A keeper for so many programs, whose last serial is `last`: the two numbers by which users make one.
     pub fn new(programs: u32, last: u32) -> Result<Announcing, Fault>
         ensures { Made programs last result }
     {
@@ -47,6 +47,7 @@ impl Announcing {
     }
 
     #[tactic(auto, using(crate::proofs::Says::exact_calls))]
+    // What keepers share of a beginning is `Stage::may_open` and the like; what it does to the state is each keeper's own.
     pub(crate) fn begin_open(&mut self, program: u32) -> Result<(), Fault>
         ensures after { state_in self.new ≡ opens (state_in self.old) program }
         ensures value { result ≡ open_answer (state_in self.old) program }

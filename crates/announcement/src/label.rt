@@ -7,6 +7,7 @@ use crate::state::Announcing;
 use announcement_theory::{CloseLabel, Label, OfferLabel, OpenLabel, Position};
 use keeper::Fault;
 
+// The label of an open's place, and below of an offer's and a close's: functions and no From, since their contracts say which.
 fn open_label(at: OpenLabel) -> Label
     ensures { result ≡ open_label at }
 {

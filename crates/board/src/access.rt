@@ -38,7 +38,7 @@ impl Board {
             .unwrap_or(Seat::IDLE)
     }
 
-    // Slot j becomes another.
+    // Slot j becomes another. By index, as `put`: of what `get_mut` lends, a proof knows nothing but the length afterwards.
     #[tactic(auto, using(keeper::proofs::Fronts::front_set))]
     pub(crate) fn fill(&mut self, j: u32, slot: Option<Stored>)
         ensures { state_of self.new ≡ fill (state_of self.old) j slot }

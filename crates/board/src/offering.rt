@@ -74,7 +74,8 @@ impl Board {
         }
     }
 
-    // The label after a program was helped or passed: the next program, after the last one F3.
+    // The label after a program was helped or passed: the next program, after the last one F3. Here and in C4 and C6 the last program is a
+    // guard, as the algorithm is written.
     fn after_help(&self, program: u32) -> OfferLabel
         ensures { result ≡ next_or self.now.programs program (F2 (program + 1)) F3 }
     {

@@ -6,6 +6,7 @@ ghost use Rattle.cells_theory.specs.Promises.{LetGoPromises};
 use cells_theory::{Cell, Field, Heads};
 
 // Lowers the count of a cell, and at 0 puts it at the front of the waiting chain. Nothing for a number that is no cell's, or a count of 0.
+// By index, as `raise`: of what `get_mut` lends, a proof knows nothing but the length afterwards.
 fn lower(cells: &mut [Cell], heads: &mut Heads, c: u32)
     ensures { memory heads.new cells.new ≡ let_go c (memory heads.old cells.old) }
 {
@@ -31,7 +32,8 @@ fn let_go_field(cells: &mut [Cell], heads: &mut Heads, f: Field)
     }
 }
 
-// Lets go of the cells that four fields name, from field 0 to field 3.
+// Lets go of the cells that four fields name, from field 0 to field 3. A loop of one line, as `raise_four`: one for both would take a
+// closure that changes cells and heads.
 pub(crate) fn let_go_four(cells: &mut [Cell], heads: &mut Heads, fields: [Field; 4])
     ensures { memory heads.new cells.new ≡ let_go_four fields (memory heads.old cells.old) }
 {

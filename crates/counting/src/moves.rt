@@ -16,6 +16,7 @@ use crate::state::Counting;
 use keeper::{Fault, Outcome, Refusal, Stage, Version, check_limits, refused, seated};
 
 impl Counting {
+    // A keeper for so many programs, whose last serial is `last`: the two numbers by which users make one.
     pub fn new(programs: u32, last: u32) -> Result<Counting, Fault>
         ensures { Made programs last result }
     {
@@ -127,6 +128,7 @@ impl Counting {
         Outcome::Nothing
     }
 
+    // What keepers share of a beginning is `Stage::may_open` and the like; what it does to the state is each keeper's own.
     pub(crate) fn begin_open(&mut self, program: u32) -> Result<(), Fault>
         ensures after { state_of self.new ≡ opens (state_of self.old) program }
         ensures value { result ≡ open_answer (state_of self.old) program }

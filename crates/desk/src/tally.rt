@@ -13,7 +13,7 @@ pub struct Tally {
 }
 
 impl Tally {
-    // Of no line.
+    // Of no line. A function and no Default, since its contract says that all three are 0.
     pub fn new() -> Tally
         ensures { result ≡ record { calls = 0; refused = 0; unreadable = 0 } }
     {

@@ -19,7 +19,7 @@ impl<K: Keeper> Exchange<K> {
     }
 
     // What every call on a program is tried for first, in the order of the refusals: its program, the memory, whether its places and
-    // field are in range, and its stage.
+    // field are in range, and its stage. The third is told by `ranged`, since it differs from call to call, and has its turn between the others.
     pub(crate) fn admit<T: Copy>(
         &self,
         program: u32,

@@ -34,7 +34,7 @@ pub struct Opened {
     pub steps: u32,
 }
 
-// Makes a call, whatever it answers.
+// Makes a call, whatever it answers. An action is a value that a list of calls holds, so a match and no closure.
 fn perform<K: Keeper>(keeper: &mut K, call: Action)
     ensures { Made call (K.Enquiry.meaning keeper.old) (K.Enquiry.meaning keeper.new) }
 {

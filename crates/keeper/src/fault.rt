@@ -82,7 +82,7 @@ impl fmt::Display for Fault {
     }
 }
 
-// A refusal that a keeper finds itself.
+// A refusal that a keeper finds itself: the layer's refusal by its short name.
 pub fn refused(refusal: Refusal) -> Fault
     ensures { result ≡ fault refusal }
 {

@@ -8,7 +8,7 @@ pub enum Kind {
 // A line of a schedule.
 #[derive(Clone, Copy, PartialEq, Eq, Debug)]
 pub enum Call {
-    // A keeper alone, of so many programs, whose last serial is `last`.
+    // A keeper alone, of so many programs, whose last serial is `last`. A making is a line like any other, and answered like one.
     Keeper {
         kind: Kind,
         programs: u32,
