@@ -3,8 +3,8 @@ ghost use Rattle.exchange_theory.specs.Inside.{all_within};
 
 use crate::row::Row;
 
-// N, and a row for each of the eight programs that there can be, in an array, and no Vec, so that no call fails for want of memory. Each place of a row is empty or names one of the N cells, and each offered place is one of
-// eight.
+// N, and a row for each of the eight programs that there can be, in an array, and no Vec, so that no call fails for want of memory. Each
+// place of a row is empty or names one of the N cells, and each offered place is one of eight.
 #[derive(Clone, Copy)]
 pub struct Places {
     pub cells: u32,
