@@ -2,6 +2,7 @@
 use Rattle.std.proofs.Common.{◌≡◌, ℕ, zero, suc, ◌+◌, ◌<◌, ◌≤◌, Bool, true, false, cond, eqb, List, [], ◌∷◌, Some, None, Option, sym, refl, ap, ◌∙◌, ⊎_elim, arith}
 use Rattle.std.proofs.lemmas.Bool.{cases_eq, ne_eqb, eqb-true}
 use Rattle.std.proofs.lemmas.Bool.Decides.{nat_tests}
+use Rattle.keeper.proofs.Recall.{copies_times}
 use Rattle.keeper.specs.Totals.{total}
 use Rattle.keeper.specs.declared.version.Version.{Version}
 use Rattle.keeper.specs.Meaning.{is_serial, same, times, copies, root_at}
@@ -123,11 +124,7 @@ pub root_once : (v : Version) (vs : List Version) → times v.serial vs ≤ 1 �
 root_once v [] h k = absurd (omega arith)
 root_once v (w ∷ vs) h k = go (eqb v.serial w.serial) refl (root_once v vs)
   where
-    more : (xs : List Version) → copies v xs ≤ times v.serial xs
-    more [] = omega arith
-    more (x ∷ xs) = grind (arith, nat_tests, more xs)
-
     go : (b : Bool) → eqb v.serial w.serial ≡ b → (times v.serial vs ≤ 1 → 0 < copies v vs → root_at v.serial vs ≡ v.root) → cond b
         w.root (root_at v.serial vs) ≡ v.root
-    go true e rest = grind (arith, nat_tests, more vs)
+    go true e rest = grind (arith, nat_tests, copies_times v vs)
     go false e rest = rest (grind (arith, nat_tests)) (grind (arith, nat_tests))

@@ -16,7 +16,7 @@ use Rattle.cells_theory.specs.Promises.{LiveFields, BuildCounts, BuildKeeps, Bui
 use Rattle.cells_theory.proofs.Counting.{same_self, same_is, same_not, name_of_is, names_in_at, names_in_low, naming_set, naming_less, times_low, on_set, fields_kept, links_kept, cell_other, cell_same, below_set, below_in, times_here}
 use Rattle.cells_theory.proofs.Chains.{chain_like, chain_head, in_free}
 use Rattle.cells_theory.proofs.Counts.{raise_is, raised, hold, times_hold}
-use Rattle.cells_theory.proofs.Frames.{Frame, framed, walked, unnamed, all_but}
+use Rattle.cells_theory.proofs.Frames.{Frame, framed, walked, unnamed, all_but, cell_is}
 
 -- the cell that a field names is there, and may be raised; it is live
 abbrev May : List Cell → Field → Type 0
@@ -306,9 +306,6 @@ module _ {T : Type 0} (fs : List Field) (leaf : T) (m : Memory) (ls : List T) (n
           part 3 (omega arith) t₃ s₃,
         );
       }
-    where
-      cell_is : (d e : ℕ) → field.Cell d ≡ field.Cell e → d ≡ e
-      cell_is d e q = cc
 
 -- a build of live cells is refused only because no cell is free, while so many fields and names are few enough
 raisable_if : (cs : List Cell) (fs : List Field) (f : Field) → ((c : ℕ) → f ≡ field.Cell c → (c < length cs) × (count_at cs c ≤ 999991 - names_in c fs)) → raisable cs fs f ≡ true

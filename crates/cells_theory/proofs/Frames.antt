@@ -16,6 +16,9 @@ pub record Frame {T : Type 0} (P : ℕ → Type 0) (cs ds : List Cell) (ls ms : 
   pub fields : (c k : ℕ) → P c → field_at ds c k ≡ field_at cs c k
   pub leaf : (c : ℕ) (d : T) → P c → get_or ms c d ≡ get_or ls c d
 
+pub cell_is : (d e : ℕ) → field.Cell d ≡ field.Cell e → d ≡ e
+cell_is d e q = cc
+
 -- a cell that a field names is among P
 abbrev pub Names : (ℕ → Type 0) → Field → Type 0
 Names P f = (c : ℕ) → f ≡ field.Cell c → P c

@@ -15,7 +15,7 @@ use Rattle.cells_theory.specs.Promises.{SweepKeeps, SweepPromises}
 use Rattle.cells_theory.proofs.Counting.{same_self, same_is, same_not, names_in_find, naming_set, on_set, cell_other, cell_same, below_set, below_in, times_here}
 use Rattle.cells_theory.proofs.Chains.{chain_like, chain_head, chain_none, in_waits, waits_in, in_free}
 use Rattle.cells_theory.proofs.Counts.{hold, times_hold, let_go_field_sound, let_go_fields}
-use Rattle.cells_theory.proofs.Frames.{Frame, framed, walked, unnamed, all_but}
+use Rattle.cells_theory.proofs.Frames.{Frame, framed, walked, unnamed, all_but, cell_is}
 
 -- Letting go of other cells and putting a cell first among the free can change places.
 
@@ -203,9 +203,6 @@ module _ (m : Memory) (names : List ℕ) (w : ℕ) (rest : List ℕ) (s : Sound 
         reaches = λ d e k p. (walked (λ d. d ≡ w → ⊥) frame d e k p).1;
       }
     where
-      cell_is : (d e : ℕ) → field.Cell d ≡ field.Cell e → d ≡ e
-      cell_is d e q = cc
-
       away : (e : ℕ) → 0 < times e names → Reaches m.cells e w → ⊥
       away e p here = omega (arith, p, wait_unnamed.1)
       away e p (down {d = d} k l r h) = unnamed m.cells w d k wait_unnamed.0 l h

@@ -36,6 +36,13 @@ abbrev pub one : Bool → ℕ
 one true = 1
 one false = 0
 
+-- a version counts for its own serial, and for no other
+counts_same : (s t r : ℕ) → s ≡ t → is_serial s (version t r) ≡ 1
+counts_same s t r e = ap {B = ℕ} (λ b. cond b 1 0) (eq-eqb s t e)
+
+counts_other : (s t r : ℕ) → (s ≡ t → ⊥) → is_serial s (version t r) ≡ 0
+counts_other s t r e = ap {B = ℕ} (λ b. cond b 1 0) (ne_eqb s t e)
+
 pub record Meant (current : ℕ) (opened : ℕ → Option ℕ) (since : ℕ → ℕ) (task : ℕ → Task) (taken : ℕ → ℕ) (gone : ℕ → Bool) (m : Meaning) : Type 0 where
   pub now : m.current.serial ≡ current
   pub opens : (p : ℕ) → opened p ≡ opened_at (stage_of m p)
@@ -217,12 +224,6 @@ module _ {T : Type 0} (S : Story T) (m n : Meaning) (p : ℕ) (laws : Laws m) (s
       (λ e. let z = i.beyond s (omega (arith, e, et)) in omega (arith, c.added (is_serial s), counts_same s t c.root e, z.0, ap one z.1))
       (λ ne. omega (arith, c.added (is_serial s), counts_other s t c.root ne, i.kept s (omega (arith, h, et, ne)))) (cases_eq s t))
       (λ s h. let z = i.beyond s (omega arith) in (omega (arith, c.added (is_serial s), counts_other s t c.root (λ e. omega (arith, e, et, h)), z.0), z.1))
-    where
-      counts_same : (s t r : ℕ) → s ≡ t → is_serial s (version t r) ≡ 1
-      counts_same s t r e = ap {B = ℕ} (λ b. cond b 1 0) (eq-eqb s t e)
-
-      counts_other : (s t r : ℕ) → (s ≡ t → ⊥) → is_serial s (version t r) ≡ 0
-      counts_other s t r e = ap {B = ℕ} (λ b. cond b 1 0) (ne_eqb s t e)
   meant_step Stale d b =
       let c = d.1 in
       ends (Offered c.over) S.current S.opened S.gone d.0 c.«is» refl (ap (λ (v : Version). v.serial) c.versions.current ∙ i.now)
@@ -241,9 +242,3 @@ module _ {T : Type 0} (S : Story T) (m n : Meaning) (p : ℕ) (laws : Laws m) (s
       (λ ne. omega (arith, c.removed (is_serial s), counts_other s x (root_at x m.kept) ne, i.kept s h, ap one (at_other S.gone x true s ne))) (cases_eq s x))
       (λ s h. let ne : s ≡ x → ⊥ = λ e. omega (arith, e, kept_low x c.kept, h) in
       (omega (arith, c.removed (is_serial s), counts_other s x (root_at x m.kept) ne, (i.beyond s h).0), at_other S.gone x true s ne ∙ (i.beyond s h).1))
-    where
-      counts_same : (s t r : ℕ) → s ≡ t → is_serial s (version t r) ≡ 1
-      counts_same s t r e = ap {B = ℕ} (λ b. cond b 1 0) (eq-eqb s t e)
-
-      counts_other : (s t r : ℕ) → (s ≡ t → ⊥) → is_serial s (version t r) ≡ 0
-      counts_other s t r e = ap {B = ℕ} (λ b. cond b 1 0) (ne_eqb s t e)

@@ -31,6 +31,10 @@ use Rattle.exchange_theory.specs.Promises.{allowance, OpenedWasCurrent, HandedOu
 use Rattle.exchange_theory.proofs.Accepted.{admitted, by_begun, by_stepped, by_done, by_shown, by_swept, step_from}
 use Rattle.exchange_theory.proofs.Meant.{opened_at, task_at, one, MeantBy, meant_open, meant_publish, meant_close, meant_step, kept_low}
 
+not_gone : (b : Bool) → one b ≡ 0 → b ≡ false
+not_gone true e = absurd (omega (arith, e))
+not_gone false e = refl
+
 -- what the table says of a stage
 pub opens_idle : (st : Stage) → allows st column.Open ≡ true → st ≡ Idle
 opens_idle Idle e = refl
@@ -172,10 +176,6 @@ module _ {T : Type 0} (S : Story T) (w v : World T) (c : Call T) (r : Result (An
       let low = kept_low S w.keeper v.keeper p laws a.seat i s o.kept in
       let strict : s < S.current = omega (arith, low, i.now, o.old) in
       (strict, not_gone (S.gone s) (omega (arith, i.kept s low, o.kept)))
-    where
-      not_gone : (b : Bool) → one b ≡ 0 → b ≡ false
-      not_gone true e = absurd (omega (arith, e))
-      not_gone false e = refl
 
   pub told_step : StepInTime w.keeper.declared (event c r) S
   told_step p o came =
@@ -200,10 +200,6 @@ module _ {T : Type 0} (S : Story T) (m : Meaning) (laws : Laws m) (i : MeantBy S
   told_unused p s h =
       let k = laws.had p s h in
       ⊎_elim (λ l. (i.beyond s l).1) (λ l. not_gone (S.gone s) (omega (arith, i.kept s l, k))) (cases_lt S.current s)
-    where
-      not_gone : (b : Bool) → one b ≡ 0 → b ≡ false
-      not_gone true e = absurd (omega (arith, e))
-      not_gone false e = refl
 
   pub told_gone : (s : ℕ) → s < S.current → ((p : ℕ) → engaged (stage_of m p) ≡ Some s → ⊥) → S.gone s ≡ true
   told_gone s l free =
