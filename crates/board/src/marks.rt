@@ -14,7 +14,7 @@ pub fn version_in(announced: Announcement) -> Mark
     }
 }
 
-// The serial in a slot, 0 in an empty one: no Option, since whoever asks has a version to compare it with, or knows that there is one.
+// The serial in a slot, 0 in an empty one: no Option, since guards compare it with a version's, as the algorithm is written.
 pub(crate) fn serial_in(slot: Option<Stored>) -> u32
     ensures { result ≡ serial_in slot }
 {

@@ -32,6 +32,11 @@ pub held_one : (s : ℕ) (r : Option Row) → holds s r ≡ true → on_row (is_
 held_one s None e = absurd (false≢true e)
 held_one s (Some row) e = grind arith
 
+-- a row that holds a serial is not empty
+pub held_some : (s : ℕ) (r : Option Row) → holds s r ≡ true → ((row : Row) → r ≡ Some row → ⊥) → ⊥
+held_some s None e n = false≢true e
+held_some s (Some row) e n = n row refl
+
 used_count : (s : ℕ) (r : Option Row) → holds s r ≡ true → used_by s r ≡ count r
 used_count s None e = absurd (false≢true e)
 used_count s (Some row) e = grind arith

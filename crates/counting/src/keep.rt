@@ -6,7 +6,6 @@ ghost use Rattle.counting.specs.Moves.{meaning_of};
 ghost use Rattle.counting.specs.Bridge.{good};
 ghost use Rattle.counting.specs.Means.{laws};
 
-use crate::rows::root;
 use crate::state::Counting;
 use keeper::{Declared, Enquiry, Fault, Keeper, Outcome, Refusal, Stage, Version, refused};
 
@@ -45,8 +44,8 @@ impl Enquiry for Counting {
         let Some(serial) = self.stages[p].has() else {
             return Err(refused(Refusal::StageForbids));
         };
-        let i = self.row_of(serial);
-        Ok(root(self.rows[i]))
+        let (_, row) = self.row_of(serial);
+        Ok(row.version.root)
     }
 }
 

@@ -1,4 +1,4 @@
-ghost use Rattle.std.specs.Prelude.{◌≡◌, ℕ, ◌+◌, ◌<◌, true};
+ghost use Rattle.std.specs.Prelude.{◌≡◌, ℕ, ◌+◌, ◌<◌, true, Some, None, slice_index_or};
 ghost use Rattle.keeper.specs.declared.outcome.Outcome.TheVariants.{Opened};
 ghost use Rattle.keeper.specs.declared.stage.Stage.TheVariants.{Offering, Closing};
 ghost use Rattle.keeper.specs.Totals.{total};
@@ -11,7 +11,7 @@ ghost use Rattle.counting.specs.Model.{state_of, Made};
 ghost use Rattle.counting.specs.Moves.{stage_at, put, place, opening, open_ends, offer_ends, offer_answers, close_ends, close_answers};
 
 use crate::rows;
-use crate::rows::{Row, count, lowered, raised};
+use crate::rows::Row;
 use crate::state::Counting;
 use keeper::{Fault, Outcome, Refusal, Stage, Version, check_limits, refused, seated};
 
@@ -44,16 +44,20 @@ impl Counting {
         Ok(p as usize)
     }
 
-    // The row of a serial that some row holds.
-    pub(crate) fn row_of(&self, serial: u32) -> usize
+    // The row of a serial that some row holds, and its place.
+    pub(crate) fn row_of(&self, serial: u32) -> (usize, Row)
         requires { 0 < total (on_row (is_serial serial)) (state_of self.now).rows }
-        ensures value { result ≡ place (state_of self.now) serial }
-        ensures bound { result < self.now.programs + 1 }
+        ensures value { result.0 ≡ place (state_of self.now) serial }
+        ensures bound { result.0 < self.now.programs + 1 }
+        ensures row { slice_index_or self.now.rows result.0 None ≡ Some result.1 }
     {
-        match rows::row_of(&self.rows[..=self.programs as usize], serial) {
-            Some(i) => i,
-            None => unreachable!(),
-        }
+        let Some(i) = rows::row_of(&self.rows[..=self.programs as usize], serial) else {
+            unreachable!()
+        };
+        let Some(row) = self.rows[i] else {
+            unreachable!()
+        };
+        (i, row)
     }
 
     // The first empty row, where there is one.
@@ -84,9 +88,8 @@ impl Counting {
         ensures value { result ≡ Opened self.old.current.serial }
     {
         let serial = self.current.serial;
-        let i = self.row_of(serial);
-        let row = self.rows[i];
-        self.rows[i] = raised(row);
+        let (i, row) = self.row_of(serial);
+        self.rows[i] = Some(row.raised());
         self.stages[p] = Stage::Open(serial);
         Outcome::Opened(serial)
     }
@@ -116,14 +119,13 @@ impl Counting {
         ensures after { state_of self.new ≡ close_ends (state_of self.old) p serial }
         ensures value { result ≡ close_answers (state_of self.old) serial }
     {
-        let i = self.row_of(serial);
-        let row = self.rows[i];
-        if count(row) == 1 && serial != self.current.serial {
+        let (i, row) = self.row_of(serial);
+        if row.users == 1 && serial != self.current.serial {
             self.rows[i] = None;
             self.stages[p] = Stage::Idle;
             return Outcome::HandedOut(serial);
         }
-        self.rows[i] = lowered(row);
+        self.rows[i] = Some(row.lowered());
         self.stages[p] = Stage::Idle;
         Outcome::Nothing
     }
