@@ -47,7 +47,7 @@ pub(crate) fn fields_from(row: &Row, sources: &[Source; 4]) -> Option<[Field; 4]
     requires { all_ranged sources.now ≡ true }
     ensures { MatchOption result (all_given row.now sources.now ≡ false) (λ fs. (all_given row.now sources.now ≡ true) × (fs ≡ fields_from row.now sources.now)) }
 {
-    // Four times: an array's own map would give four Options and no Option of four.
+    // Four times: an array's `map` gives four Options and no Option of four, and its `try_map` wants an error, made only to be dropped.
     let [first, second, third, fourth] = *sources;
     Some([
         field_from(row, first)?,
