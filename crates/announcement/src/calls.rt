@@ -46,8 +46,8 @@ impl Announcing {
         stage_in(self.board.seat_at(program))
     }
 
-    #[tactic(auto, using(crate::proofs::Says::exact_calls))]
     // What keepers share of a beginning is `Stage::may_open` and the like; what it does to the state is each keeper's own.
+    #[tactic(auto, using(crate::proofs::Says::exact_calls))]
     pub(crate) fn begin_open(&mut self, program: u32) -> Result<(), Fault>
         ensures after { state_in self.new ≡ opens (state_in self.old) program }
         ensures value { result ≡ open_answer (state_in self.old) program }

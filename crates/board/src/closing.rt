@@ -95,7 +95,7 @@ impl Board {
         self.scans(p, version)
     }
 
-    // C4: a program that asks for help with the version is bound to it.
+    // C4: a program that asks for help with the version is bound to it. The last program is a guard here and in C6, as in F2.
     fn bind_step(&mut self, p: u32, version: Mark, program: u32) -> Outcome
         ensures { Took (step_at (state_of self.old) p (Closing version (C4 program))) (state_of self.new) result }
     {

@@ -14,7 +14,8 @@ pub fn version_in(announced: Announcement) -> Mark
     }
 }
 
-// The serial in a slot, 0 in an empty one: no Option, since guards compare it with a version's, as the algorithm is written.
+// The serial in a slot, 0 in an empty one: no Option, since guards compare it with a version's, as the algorithm is written, and an
+// accepted offer knows that its slot is filled.
 pub(crate) fn serial_in(slot: Option<Stored>) -> u32
     ensures { result ≡ serial_in slot }
 {

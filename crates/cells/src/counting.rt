@@ -7,7 +7,7 @@ ghost use Rattle.cells_theory.specs.Promises.{CountPromises};
 
 use cells_theory::Cell;
 
-// The count of cell c. A number that is no cell's is named nowhere: its count is 0.
+// The count of cell c, and of a number that is no cell's 0: so the contract says, and in a sound memory nothing names it.
 fn read_count(cells: &[Cell], c: u32) -> u32
     ensures { result ≡ count_answer cells.now c }
 {

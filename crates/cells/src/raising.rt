@@ -50,7 +50,7 @@ pub(crate) fn may_raise_all(cells: &[Cell], fields: [Field; 4]) -> bool
     true
 }
 
-// Raises the count of a cell. Nothing for a number that is no cell's, or a count that may not be raised.
+// By index, as `lower`. Raises the count of a cell. Nothing for a number that is no cell's, or a count that may not be raised.
 fn raise(cells: &mut [Cell], c: u32)
     ensures { cells.new ≡ raised c cells.old }
 {
@@ -69,7 +69,7 @@ fn raise_field(cells: &mut [Cell], f: Field)
     }
 }
 
-// Raises each cell that the four fields name, once for each field that names it.
+// Raises each cell that the four fields name, once for each field that names it: a loop of one line, as `let_go_four`.
 pub(crate) fn raise_four(cells: &mut [Cell], fields: [Field; 4])
     ensures { cells.new ≡ raise_four fields cells.old }
 {

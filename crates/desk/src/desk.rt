@@ -9,7 +9,7 @@ use keeper::Fault;
 use schedule::{Call, Kind, read};
 use std::fmt;
 
-// The keeper that the calls go to: the one that was made last. There are two kinds, so it is an enum and not a boxed trait; and none is a
+// The keeper that the calls go to: the one that was made last. There are two kinds, so it is an enum and not a boxed trait, which would want the heap; and none is a
 // case beside them, so that a desk has methods, which an Option of one would not.
 #[derive(Drop)]
 pub enum Desk {

@@ -15,7 +15,7 @@ use announcement::Announcing;
 use counting::Counting;
 use keeper::{Enquiry, Keeper};
 
-// A keeper whose programs stand at labels. Each impl says how its own labels become a desk's.
+// A keeper whose programs stand at labels. One trait with its law serves both keepers; each impl says how its own labels become a desk's.
 pub trait Screen: Keeper {
     ghost labels: { Self → ℕ → Option Label };
 

@@ -5,7 +5,7 @@ use crate::answer::Answer;
 use std::fmt;
 
 // How many lines were calls, how many of those were refused, and how many lines were unreadable.
-#[derive(Clone, Copy)]
+#[derive(Clone, Copy, Default)]
 pub struct Tally {
     pub calls: u64,
     pub refused: u64,
@@ -13,15 +13,11 @@ pub struct Tally {
 }
 
 impl Tally {
-    // Of no line. A function and no Default, since its contract says that all three are 0.
+    // Of no line.
     pub fn new() -> Tally
         ensures { result ≡ record { calls = 0; refused = 0; unreadable = 0 } }
     {
-        Tally {
-            calls: 0,
-            refused: 0,
-            unreadable: 0,
-        }
+        Tally::default()
     }
 
     // With one line more, by its answer. A count stays at the largest number that it can hold.

@@ -1,2 +1,1 @@
 pub mod Idles
-pub mod Within

@@ -14,7 +14,8 @@ pub(crate) fn let_go_named(cells: &mut [Cell], heads: &mut Heads, named: Option<
     }
 }
 
-// Lets go of the cells that places name, from the first on. A loop of one line, as the cells have for fields.
+// Lets go of the cells that places name, from the first on. A loop of one line, as the cells have for fields: one
+// for both would take a closure that changes cells and heads.
 pub(crate) fn let_go_all(cells: &mut [Cell], heads: &mut Heads, places: &[Option<u32>; 8])
     ensures { memory heads.new cells.new ≡ let_go_places places.now (memory heads.old cells.old) }
 {

@@ -7,7 +7,7 @@ use cells_theory::Cell;
 use keeper::{Enquiry, Fault, Keeper, Refusal};
 
 impl<K: Keeper> Exchange<K> {
-    // Frees the first waiting cell, and answers whether there was one.
+    // Frees the first waiting cell, and answers whether there was one; which cell it was is nothing to the outside.
     pub fn sweep<T: Copy>(&mut self, cells: &mut [Cell], leaves: &[T]) -> Result<bool, Fault>
         ensures { Sweeps result (world_of K.Enquiry.meaning self.old cells.old leaves.now) (world_of K.Enquiry.meaning self.new cells.new leaves.now) }
     {

@@ -5,8 +5,8 @@ use Rattle.keeper.specs.declared.fault.Fault.{Fault}
 use Rattle.exchange_theory.specs.declared.calls.Call.{Call}
 use Rattle.exchange_theory.specs.declared.calls.Answer.{Answer}
 use Rattle.exchange_theory.specs.World.{World}
-use Rattle.exchange_theory.specs.History.{Event, event, Reached}
-use Rattle.exchange_theory.specs.Promises.{Promises, GoesOn}
+use Rattle.exchange_theory.specs.History.{Event, event}
+use Rattle.exchange_theory.specs.Promises.{GoesOn}
 use Rattle.exchange_client.specs.Rows.{turned, Performed}
 
 -- a refusal counts 1, another answer 0
@@ -21,9 +21,6 @@ turned_none (Err f) e = absurd cc
 pub turned_low : {A : Type 0} (r : Result A Fault) → turned r ≤ 1
 turned_low (Ok a) = omega arith
 turned_low (Err f) = omega arith
-
-pub performed_none : {T : Type 0} {leaf : T} {h : List (Event T)} {w : World T} → Reached leaf h w → Promises leaf h w → Performed leaf h [] 0 w
-performed_none r p = record { later = []; calls = refl; refused = refl; reached = r; promises = p }
 
 pub performed_more : {T : Type 0} {leaf : T} {h : List (Event T)} {w v : World T} (cs : List (Call T)) (n : ℕ) (c : Call T) (r : Result (Answer T) Fault)
     → Performed leaf h cs n w → GoesOn c r w v → Performed leaf h (cs ++ (c ∷ [])) (n + turned r) v

@@ -1,4 +1,4 @@
-ghost use Rattle.std.specs.Prelude.{◌≡◌, ℕ, true};
+ghost use Rattle.std.specs.Prelude.{◌≡◌, ℕ, true, slice_set};
 ghost use Rattle.exchange_theory.specs.Inside.{below, within};
 ghost use Rattle.exchange_theory.specs.World.{emptied, row_reading, row_building};
 
@@ -12,6 +12,17 @@ pub struct Row {
     pub offered: u32,
     // The root of the version that it closed last.
     pub closing: u32,
+}
+
+// Eight places with what one of them is to name.
+fn naming(places: [Option<u32>; 8], place: u32, named: Option<u32>) -> [Option<u32>; 8]
+    ensures { result ≡ slice_set places place named }
+{
+    let mut after = places;
+    if place < 8 {
+        after[place as usize] = named;
+    }
+    after
 }
 
 impl Row {
@@ -30,24 +41,22 @@ impl Row {
         ensures value { result ≡ row_reading place named self }
         ensures inside { (n : ℕ) → within n self ≡ true → below n named ≡ true → within n result ≡ true }
     {
-        let mut row = self;
-        if place < 8 {
-            row.reading[place as usize] = named;
+        Row {
+            reading: naming(self.reading, place, named),
+            ..self
         }
-        row
     }
 
-    // The same for one of its building places: one function for both would take a closure that chooses between two fields.
+    // The same for one of its building places.
     #[tactic(auto, using(crate::proofs::Insides::within_building))]
     pub fn with_building(self, place: u32, named: Option<u32>) -> Row
         ensures value { result ≡ row_building place named self }
         ensures inside { (n : ℕ) → within n self ≡ true → below n named ≡ true → within n result ≡ true }
     {
-        let mut row = self;
-        if place < 8 {
-            row.building[place as usize] = named;
+        Row {
+            building: naming(self.building, place, named),
+            ..self
         }
-        row
     }
 
     // The row with no places, whose program closes a version with that root.
