@@ -28,7 +28,7 @@ impl Board {
         self.used_slots().get(j as usize).copied().flatten()
     }
 
-    // Where program q stands, and what it announces.
+    // Where program q stands, and what it announces. Total, and no Option: a number that is no program's has nobody's seat, as defined.
     pub fn seat_at(&self, q: u32) -> Seat
         ensures { result ≡ seat_at (state_of self.now) q }
     {

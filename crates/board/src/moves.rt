@@ -54,7 +54,8 @@ impl Board {
         self.go_to(p, Position::Closing { version, at });
     }
 
-    // One step of the operation that a program is in; none, and nothing is changed, where no serial is left above the current one.
+    // One step of the operation that a program is in; none, and nothing is changed, where no serial is left above the current one. Where no
+    // operation runs it goes on, as defined, so that it is total.
     pub fn checked_step(&mut self, p: u32) -> Option<Outcome>
         ensures { Steps (state_of self.old) p (state_of self.new) result }
     {

@@ -17,7 +17,7 @@ impl Places {
     ghost use Rattle.exchange_theory.specs.Inside.{within};
     ghost use Rattle.exchange_theory.specs.World.{row_in};
 
-    // The row of a program; a number that is no program's has a row with no places.
+    // The row of a program. Total, and no Option: a number that is no program's has a row with no places, as defined.
     #[tactic(auto, using(crate::proofs::Insides::row_within, crate::proofs::Insides::row_low))]
     pub fn row(&self, program: u32) -> Row
         ensures value { result ≡ row_in self.now.rows program }
