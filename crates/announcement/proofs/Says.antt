@@ -12,17 +12,10 @@ use Rattle.announcement_theory.specs.Means.{meaning_of}
 use Rattle.announcement_theory.specs.Invariant.{Good}
 use Rattle.announcement_theory.proofs.Calls.{open_call, publish_call, close_call, step_call}
 use Rattle.announcement.specs.declared.state.Announcing.{Announcing}
-use Rattle.announcement.specs.Model.{state_in}
 use Rattle.announcement.specs.Exact.{good, open_refused, open_done, open_kept, publish_refused, publish_full, publish_done, close_refused, close_done, close_kept, step_refused, step_done, checked_kept}
 use Rattle.announcement.specs.Calls.{opens, open_answer, publishes, publish_answer, closes, close_answer, steps, step_answer}
 
-module _ (k : Announcing) (p : ℕ) where
-  abbrev s : State
-  s = state_in k
-
-  g : Good s
-  g = good k
-
+module _ (s : State) (g : Good s) (p : ℕ) where
   pub open_says : (w : State) (r : Result (Unit {0}) Fault) → w ≡ opens s p → r ≡ open_answer s p → OpenSays (meaning_of s) p (meaning_of w) r
   open_says w r e f = acts meaning_of (open_fault (meaning_of s) p) s _ w tt r (λ n _. OpenDone (meaning_of s) p n) e f
       (λ none. let h = seated p s.programs _ none in (open_call s g p h (passed _ _ _ (sym (in_range p s.programs _ h) ∙ none))).1)

@@ -11,7 +11,8 @@ fn follow(cells: &[Cell], f: Field) -> Result<Field, Fault>
 {
     match f {
         Field::Cell(d) if d as usize >= cells.len() => Err(DAMAGED),
-        _ => Ok(f),
+        Field::Cell(_) => Ok(f),
+        Field::Empty | Field::Number(_) => Ok(f),
     }
 }
 

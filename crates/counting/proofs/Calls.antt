@@ -10,6 +10,7 @@ use Rattle.keeper.specs.Stages.{uses, named, has, engaged, idle, opened, closabl
 use Rattle.keeper.specs.Refusals.{fault}
 use Rattle.keeper.specs.Meaning.{Meaning, stage_of}
 use Rattle.keeper.specs.Effects.{answer, stage_answer, root_answer, root_of}
+use Rattle.keeper.proofs.Stages.{idle_is}
 use Rattle.keeper.proofs.Faults.{in_range, open_meets, publish_meets, publish_last, publish_allowed, close_meets, step_meets}
 use Rattle.keeper.proofs.Exact.{refused_state, refused_answer, done_state, done_answer}
 use Rattle.counting.specs.declared.state.Counting.{Counting}
@@ -41,6 +42,9 @@ module _ (k : Counting) (p : ℕ) (within : p < k.programs) where
       (λ (late : k.current.serial < s). absurd (omega (arith, k.filled.2 s late, used_held (state_of k) (good k) p s within e)))
       (λ (h : s ≤ k.current.serial). h)
       (cases_lt k.current.serial s)
+
+  pub open_level : idle (get_or k.stages p Idle) ≡ true → (s : ℕ) → 0 ≡ uses s (stage_at (state_of k) p)
+  open_level e s = sym (ap (uses s) (here Idle (idle_is _ e)))
 
   pub used_level : (s : ℕ) → has (get_or k.stages p Idle) ≡ Some s → (t : ℕ) → named t (Some s) ≡ uses t (stage_at (state_of k) p)
   used_level s e t = sym (ap (uses t) (stage_here k p within) ∙ ap (named t) (has_engaged (get_or k.stages p Idle) s e))

@@ -3,10 +3,15 @@ use Rattle.std.specs.Prelude.{◌≡◌, ℕ, Bool, true, false, is_some, None, 
 use Rattle.std.proofs.Common.{sym, ap, ◌∙◌, arith}
 use Rattle.std.proofs.lemmas.List.{get_or_past}
 use Rattle.std.proofs.lemmas.Bool.{ltb-false}
+use Rattle.keeper.specs.declared.stage.Stage.TheVariants.{Idle}
 use Rattle.keeper.specs.declared.fault.Fault.{Fault}
 use Rattle.keeper.specs.declared.fault.Refusal.TheVariants.{NoProgram}
 use Rattle.keeper.specs.Refusals.{unless}
 use Rattle.keeper.specs.Effects.{answer}
+use Rattle.counting.specs.declared.state.Counting.{Counting}
+use Rattle.counting.specs.Moves.{stage_at}
+use Rattle.counting.specs.Labels.{label_of, label_answer}
+use Rattle.counting.specs.Model.{state_of}
 use Rattle.keeper.specs.Stages.{moving}
 use Rattle.keeper.specs.Meaning.{stage_of}
 use Rattle.announcement_theory.specs.declared.announcement.Announcement.{Announcement}
@@ -21,10 +26,17 @@ use Rattle.announcement.specs.declared.state.Announcing.{Announcing}
 use Rattle.announcement.specs.Model.{state_in}
 use Rattle.announcement.specs.Calls.{label_answer as announcement_answer}
 use Rattle.announcement.specs.Exact.{good}
-use Rattle.desk.specs.Performs.{announcement_label}
+use Rattle.desk.specs.Performs.{announcement_label, counting_label}
 
 differ : {A : Type 0} {a : A} {f : Fault} → Err f ≡ Ok a → ◌≡◌ {A = ℕ} 0 1
 differ e = cc
+
+pub no_label : (k : Counting) (p : ℕ) (f : Fault) → Err f ≡ label_answer (state_of k) p → None ≡ counting_label (stage_at (state_of k) p)
+no_label k p f e = go (nat_lt p k.programs) refl e
+  where
+    go : (b : Bool) → nat_lt p k.programs ≡ b → Err f ≡ answer (unless b NoProgram None) (label_of (stage_at (state_of k) p)) → None ≡ counting_label (stage_at (state_of k) p)
+    go true t e = absurd (omega (arith, differ e))
+    go false t e = sym (ap counting_label (get_or_past (state_of k).stages p Idle (omega (arith, ltb-false p k.programs t, k.sized))))
 
 -- the same of the announcement keeper; and a program with steps left stands at a label
 pub nowhere : (k : Announcing) (p : ℕ) (f : Fault) → Err f ≡ announcement_answer (state_in k) p → None ≡ announcement_label (position_at (state_in k) p)

@@ -78,7 +78,8 @@ impl<K: Keeper> Exchange<K> {
         ensures { Looks program place result (world_of K.Enquiry.meaning self.now cells.now leaves.now) (world_of K.Enquiry.meaning self.now cells.now leaves.now) }
     {
         self.admit(program, place < 8, Column::Look, cells, leaves)?;
-        let row = self.desk.places.row(program);
+        // Read where it stands: a look writes no row, and need not copy one.
+        let row = &self.desk.places.rows[program as usize];
         let Some(cell) = row.reading[place as usize] else {
             return Err(refused(Refusal::PlaceEmpty));
         };

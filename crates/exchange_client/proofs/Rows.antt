@@ -5,9 +5,12 @@ use Rattle.keeper.specs.declared.fault.Fault.{Fault}
 use Rattle.exchange_theory.specs.declared.calls.Call.{Call}
 use Rattle.exchange_theory.specs.declared.calls.Answer.{Answer}
 use Rattle.exchange_theory.specs.World.{World}
-use Rattle.exchange_theory.specs.History.{Event, event}
-use Rattle.exchange_theory.specs.Promises.{GoesOn}
+use Rattle.exchange_theory.specs.History.{Event, event, Reached}
+use Rattle.exchange_theory.specs.Promises.{Promises, GoesOn}
 use Rattle.exchange_client.specs.Rows.{turned, Performed}
+
+pub performed_none : {T : Type 0} {leaf : T} {h : List (Event T)} {w : World T} → Reached leaf h w → Promises leaf h w → Performed leaf h [] 0 w
+performed_none r p = record { later = []; calls = refl; refused = refl; reached = r; promises = p }
 
 -- a refusal counts 1, another answer 0
 pub turned_one : {A : Type 0} (r : Result A Fault) → is_err r ≡ true → turned r ≡ 1

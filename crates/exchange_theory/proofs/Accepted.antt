@@ -1,5 +1,5 @@
 -- What is known of a call that was accepted, and the cases of a call's answer.
-use Rattle.std.proofs.Common.{◌≡◌, ℕ, ◌<◌, Bool, true, false, ltb, None, Ok, Err, Option, Result, refl, subst}
+use Rattle.std.proofs.Common.{◌≡◌, ℕ, ◌<◌, Bool, true, false, ltb, Some, None, Ok, Err, Option, Result, refl, subst}
 use Rattle.std.proofs.lemmas.Bool.{ltb-true}
 use Rattle.keeper.specs.declared.outcome.Outcome.{Outcome}
 use Rattle.keeper.specs.declared.fault.Refusal.{Refusal}
@@ -15,7 +15,7 @@ use Rattle.exchange_theory.specs.declared.calls.Answer.{Answer}
 use Rattle.exchange_theory.specs.declared.calls.Answer.TheVariants as answer
 use Rattle.exchange_theory.specs.World.{World}
 use Rattle.exchange_theory.specs.Table.{allows}
-use Rattle.exchange_theory.specs.Order.{refuse, sized, admits}
+use Rattle.exchange_theory.specs.Order.{refuse, sized, admits, passing}
 use Rattle.exchange_theory.specs.Keeping.{Steps}
 use Rattle.exchange_theory.specs.Did.{AsBegun, AsStepped, AsDone, AsShown, AsSwept, Did}
 
@@ -27,6 +27,10 @@ refuse_none false r rest e = absurd cc
 pub unless_none : (b : Bool) (r : Refusal) (rest : Option Fault) → unless b r rest ≡ None → (b ≡ true) × (rest ≡ None)
 unless_none true r rest e = (refl, e)
 unless_none false r rest e = absurd cc
+
+pub passing_none : (o rest : Option Fault) → passing o rest ≡ None → (o ≡ None) × (rest ≡ None)
+passing_none None rest e = (refl, e)
+passing_none (Some f) rest e = absurd cc
 
 -- what holds where a call on a program is not refused
 pub record Admitted {T : Type 0} (w : World T) (p : ℕ) (ranged : Bool) (c : Column) (rest : Option Fault) : Type 0 where

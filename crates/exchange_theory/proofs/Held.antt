@@ -2,9 +2,10 @@
 use Rattle.std.proofs.Common.{◌≡◌, ℕ, ◌<◌, ◌≤◌, cond, List, ◌++◌, map, length, get_or, Some, None, Ok, Err, Option, sym, refl, ap, ◌∙◌, subst, ⊎_elim, arith}
 use Rattle.std.proofs.lemmas.List.{length-set, get_or_past}
 use Rattle.std.proofs.lemmas.Bool.{cases_eq, cases_lt, lt-ltb}
+use Rattle.std.proofs.lemmas.Option.{none-some}
 use Rattle.keeper.specs.declared.version.Version.{Version}
 use Rattle.keeper.specs.declared.stage.Stage.{Stage}
-use Rattle.keeper.specs.declared.stage.Stage.TheVariants.{Opening, Offering, Closing}
+use Rattle.keeper.specs.declared.stage.Stage.TheVariants.{Idle, Opening, Offering, Closing}
 use Rattle.keeper.specs.declared.fault.Refusal.TheVariants.{NoProgram}
 use Rattle.keeper.specs.Refusals.{fault}
 use Rattle.keeper.specs.Stages.{has}
@@ -155,6 +156,13 @@ module _ {T : Type 0} (version : ℕ → Tree T) (rd bd : ℕ → ℕ → Tree T
   opened_kept : (p s : ℕ) → opened_at (stage_of w.keeper p) ≡ Some s → 0 < times_kept s w.keeper.kept
   opened_kept p s e = laws.had p s (opened_has (stage_of w.keeper p) s e)
 
+  -- what has opened a version is a program
+  opened_below : (p s : ℕ) → opened_at (stage_of w.keeper p) ≡ Some s → p < w.programs
+  opened_below p s e = ⊎_elim
+      (λ l. l)
+      (λ past. absurd (none-some s (sym (ap opened_at (get_or_past w.keeper.stages p Idle (omega (arith, laws.staged, h.shaped.«same», past)))) ∙ e)))
+      (cases_lt p w.programs)
+
   pub read_live : (p a c : ℕ) → p < 8 → a < 8 → reading_at w p a ≡ Some c → Live (memory_of w) c
   read_live p a c lp la e =
       let r = h.stood.reached p a c lp la e in
@@ -170,15 +178,15 @@ module _ {T : Type 0} (version : ℕ → Tree T) (rd bd : ℕ → ℕ → Tree T
   }
 
   -- root and down: a reading place gets a cell that the program's version reaches
-  pub held_reads : (p a c : ℕ) (x : Tree T) → p < w.programs → a < 8 → Stands w.cells w.leaves (field.Cell c) x
+  pub held_reads : (p a c : ℕ) (x : Tree T) → p < 8 → a < 8 → Stands w.cells w.leaves (field.Cell c) x
       → (s : ℕ) × (opened_at (stage_of w.keeper p) ≡ Some s) × Reaches w.cells (root_at s w.keeper.kept) c
       → Held version (at_place rd p a x) bd offers (reading p a (Some c) w)
-  held_reads p a c x lp la st path =
+  held_reads p a c x l8 la st path =
       let i = h.shaped in
+      let lp = opened_below p path.0 path.1 in
       let old = row_at w p in
       let r = row_reading a (Some c) old in
       let v = with_row p r w in
-      let l8 : p < 8 = omega (arith, i.few, lp) in
       let l : p < length w.rows = omega (arith, i.seats, l8) in
       let ra : a < length old.reading = omega (arith, i.reads p l8, la) in
       let own = place_same (λ (y : Row). y.reading) w p r a (Some c) l ra refl in

@@ -1,11 +1,23 @@
--- Places that name cells below a limit: writing one of them, in a row; and reading and writing a row in a table of rows.
-use Rattle.std.proofs.Common.{◌≡◌, ℕ, zero, suc, ◌<◌, true, ◌&&◌, ltb, List, [], ◌∷◌, set, get_or, length, Option, refl, arith}
+-- Places that name cells below a limit: reading and writing one of them, in a row; and reading and writing a row in a table of rows.
+use Rattle.std.proofs.Common.{◌≡◌, ℕ, zero, suc, ◌<◌, true, ◌&&◌, ltb, List, [], ◌∷◌, set, get_or, length, replicate, Some, None, Option, refl, arith}
 use Rattle.std.proofs.lemmas.Bool.{ltb-true, lt-ltb, and_parts, and_from}
 use Rattle.exchange_theory.specs.declared.row.Row.{Row}
 use Rattle.exchange_theory.specs.Inside.{below, inside, within, all_within}
 use Rattle.exchange_theory.specs.World.{emptied, row_reading, row_building}
 
-inside_set : (n : ℕ) (os : List (Option ℕ)) (i : ℕ) (x : Option ℕ) → inside n os ≡ true → below n x ≡ true → inside n (set os i x) ≡ true
+pub inside_at : (n : ℕ) (os : List (Option ℕ)) (i : ℕ) → inside n os ≡ true → below n (get_or os i None) ≡ true
+inside_at n [] i e = refl
+inside_at n (o ∷ os) zero e = (and_parts (below n o) (inside n os) e).0
+inside_at n (o ∷ os) (suc i) e = inside_at n os i (and_parts (below n o) (inside n os) e).1
+
+pub inside_cell : (n : ℕ) (os : List (Option ℕ)) (i c : ℕ) → inside n os ≡ true → get_or os i None ≡ Some c → c < n
+inside_cell n os i c e g = let b : below n (Some c) ≡ true = rw g at (inside_at n os i e) in ltb-true c n b
+
+pub inside_none : (n k : ℕ) → inside n (replicate k None) ≡ true
+inside_none n zero = refl
+inside_none n (suc k) = inside_none n k
+
+pub inside_set : (n : ℕ) (os : List (Option ℕ)) (i : ℕ) (x : Option ℕ) → inside n os ≡ true → below n x ≡ true → inside n (set os i x) ≡ true
 inside_set n [] i x e b = refl
 inside_set n (o ∷ os) zero x e b = and_from (below n x) (inside n os) b (and_parts (below n o) (inside n os) e).1
 inside_set n (o ∷ os) (suc i) x e b = let q = and_parts (below n o) (inside n os) e in and_from (below n o) (inside n (set os i x)) q.0 (inside_set n os i x q.1 b)

@@ -150,7 +150,7 @@ close_serial st s a e = absurd cc
 build_offers_not : (st : Stage) (r s : ℕ) → allows st column.Build ≡ true → st ≡ Offering r s → ⊥
 build_offers_not st r s a e = let g : false ≡ true = sym (ap (λ (x : Stage). allows x column.Build) e) ∙ a in cc
 
-placed_some : (o : Option ℕ) (c : ℕ) → placed o ≡ field.Cell c → o ≡ Some c
+pub placed_some : (o : Option ℕ) (c : ℕ) → placed o ≡ field.Cell c → o ≡ Some c
 placed_some None c e = absurd cc
 placed_some (Some d) c e = cc
 
@@ -263,7 +263,7 @@ module _ {T : Type 0} (S : Story T) (w : World T) (laws : Laws w.keeper) (i : Me
       subst (λ (y : Tree T). Stands w.cells w.leaves (field.Cell o.root) y) (sym tree)
       (subst (λ (c : ℕ). Stands w.cells w.leaves (field.Cell c) (S.version t.0)) (sym t.2) (h.stood.versions t.0 t.3)) in
       subst (λ (x : World T). HeldBy (reads p a (tree_of S (S.opened p)) S) x) (sym o.after)
-      (held_reads S.version S.reading S.building S.offers w laws h p a o.root (tree_of S (S.opened p)) g.program (ltb-true a 8 g.range) st
+      (held_reads S.version S.reading S.building S.offers w laws h p a o.root (tree_of S (S.opened p)) (eight p g.program) (ltb-true a 8 g.range) st
       (t.0, t.1, subst (λ (c : ℕ). Reaches w.cells (root_at t.0 kept) c) (sym t.2) here))
 
   -- following a field of a live cell
@@ -287,7 +287,7 @@ module _ {T : Type 0} (S : Story T) (w : World T) (laws : Laws w.keeper) (i : Me
       let path = h.stood.reached p a o.from lp la o.start in
       let lower = (field_promises w.cells o.from k (Ok (field.Cell o.to)) (sym o.along)).reached o.to refl in
       subst (λ (x : World T). HeldBy (reads p b (child k (S.reading p a)) S) x) (sym o.after)
-      (held_reads S.version S.reading S.building S.offers w laws h p b o.to (child k (S.reading p a)) g.program lb st
+      (held_reads S.version S.reading S.building S.offers w laws h p b o.to (child k (S.reading p a)) lp lb st
       (path.0, path.1, onward w.cells (root_at path.0 w.keeper.kept) o.from o.to path.2 lower))
 
   held_built : (v : World T) (p b : ℕ) (ss : List Source) (leaf : T) → Admitted w p (ltb b 8 && all_ranged ss) column.Build (refuse (all_given (row_at w p) ss) PlaceEmpty (fault_of (new_cell w p ss))) → BuildsCell p b ss leaf w v

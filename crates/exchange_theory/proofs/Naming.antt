@@ -116,7 +116,7 @@ pub times_new : (t r : ℕ) (vs us : List Version) → Added (version t r) vs us
 times_new t r vs us a = let z : is_serial t (version t r) ≡ 1 = ap {B = ℕ} (λ b. cond b 1 0) (eq-eqb t t refl) in omega (arith, a (is_serial t), z)
 
 -- at most so many places name a cell
-few_cells : (os : List (Option ℕ)) (n : ℕ) → ((i : ℕ) → n ≤ i → get_or os i None ≡ None) → length (cells_in os) ≤ n
+pub few_cells : (os : List (Option ℕ)) (n : ℕ) → ((i : ℕ) → n ≤ i → get_or os i None ≡ None) → length (cells_in os) ≤ n
 few_cells [] n h = omega arith
 few_cells (None ∷ os) zero h = few_cells os 0 (λ i l. h (suc i) (omega arith))
 few_cells (None ∷ os) (suc n) h = omega (arith, few_cells os n (λ i l. h (suc i) (omega arith)))

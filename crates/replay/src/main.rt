@@ -32,14 +32,19 @@ fn play(rt: &HostRuntime, path: &str) -> io::Result<()> {
     replay(rt, BufReader::new(rt.alloc(), file)?)
 }
 
-// Answers every line but empty ones and comments, one line in memory at a time.
-fn replay<R: BufRead + Drop>(rt: &HostRuntime, input: R) -> io::Result<()> {
+// Answers every line but empty ones and comments, one line in memory at a time: in one buffer, since each of `split`'s would want memory
+// of its own.
+fn replay<R: BufRead + Drop>(rt: &HostRuntime, mut input: R) -> io::Result<()> {
     let mut out = BufWriter::new(rt.alloc(), rt.stdout())?;
     let mut desk = Desk::Nothing;
     let mut tally = Tally::new();
-    for line in input.split(rt.alloc(), b'\n') {
-        let line = line?;
-        let text = line.as_slice();
+    let mut line: Vec<u8> = Vec::new(rt.alloc());
+    for _ in 0..u64::MAX {
+        line.clear();
+        if input.read_until(b'\n', &mut line)? == 0 {
+            break;
+        }
+        let text = without_end(line.as_slice());
         if is_skipped(text) {
             continue;
         }
@@ -49,6 +54,11 @@ fn replay<R: BufRead + Drop>(rt: &HostRuntime, input: R) -> io::Result<()> {
     }
     writeln!(out, "{tally}")?;
     out.flush()
+}
+
+// The line without its line feed, which the last one may lack.
+fn without_end(line: &[u8]) -> &[u8] {
+    line.strip_suffix(b"\n").unwrap_or(line)
 }
 
 // Empty lines and comments are not answered.

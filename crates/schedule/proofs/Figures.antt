@@ -1,16 +1,27 @@
 -- The number that a text writes.
-use Rattle.std.proofs.Common.{◌≡◌, ℕ, ◌^◌, ◌<◌, ◌≤◌, Bool, true, false, cond, leb, ◌⊎◌, List, [], ◌∷◌, ◌++◌, length, get_or, Some, None, decimal, Option, sym, refl, ap, ◌∙◌, inl, inr, arith, rules}
+use Rattle.std.proofs.Common.{◌≡◌, ℕ, ◌+◌, ◌^◌, ◌<◌, ◌≤◌, Bool, true, false, cond, leb, ◌⊎◌, List, [], ◌∷◌, ◌++◌, length, get_or, drop, Some, None, decimal, Option, sym, refl, ap, ◌∙◌, inl, inr, arith, rules}
 use Rattle.std.proofs.lemmas.Fmt.{decimal-digits_value, decimal_digit, decimal_nonempty, digits_decimal, first_decimal, digits_value-decimal}
+use Rattle.std.proofs.lemmas.List.{at_drop_more, at_drop_all}
 use Rattle.std.proofs.lemmas.Str.Parse.{IsNumeralModel, numerals_by_fold, not_in_digits}
 use Rattle.std.proofs.lemmas.Bool.{and_parts, and_from, le-leb, leb-true, cases_lt, ne_eqb}
 use Rattle.std.specs.Char.{is_ascii_digit}
 use Rattle.std.specs.Str.{all_ascii_digits}
 use Rattle.std.proofs.lemmas.Bool.Decides.{nat_tests}
 use Rattle.schedule.specs.Lines.{Numbered}
-use Rattle.schedule.specs.Pieces.{and_then, lead_in, longer, number_in, plain, with_digits}
+use Rattle.schedule.specs.Pieces.{and_then, lead_in, longer, number_in, plain, with_digit, with_digits}
 use Rattle.schedule.proofs.Marks.{after_cut, cut_apart}
 use Rattle.std.proofs.lemmas.Option.{none-some}
 use Rattle.schedule.proofs.Steps.{after_step}
+
+-- one digit on
+pub digits_more : (most n : ℕ) (text : List ℕ) (i : ℕ) (r : Option ℕ) → i < length text → r ≡ with_digit most n (get_or text i 0) → with_digits most n (drop i text) ≡ and_then r (λ m. with_digits most m (drop (i + 1) text))
+digits_more most n text i r h e =
+    at_drop_more (with_digits most n) text i 0 h
+    ∙ ap (λ (o : Option ℕ). and_then o (λ m. with_digits most m (drop (i + 1) text))) (sym e)
+
+-- at the end
+pub digits_all : (most n : ℕ) (text : List ℕ) (i : ℕ) → length text ≤ i → with_digits most n (drop i text) ≡ Some n
+digits_all most n text i h = at_drop_all (with_digits most n) text i h
 
 -- the number that digits write behind n
 abbrev value_on : ℕ → List ℕ → ℕ

@@ -1,4 +1,4 @@
-use Rattle.std.proofs.Common.{◌≡◌, ◌<◌, Ok, sym, ap, ◌∙◌, subst, arith}
+use Rattle.std.proofs.Common.{◌≡◌, ℕ, ◌<◌, Ok, None, get_or, sym, ap, ◌∙◌, subst, arith}
 use Rattle.keeper.specs.Stages.{has}
 use Rattle.keeper.specs.Effects.{root_answer}
 use Rattle.counting.specs.Model.{state_of}
@@ -18,9 +18,12 @@ row_of-requires c =
     used_held (state_of k) (good k) p c.in-Some.serial h (has_engaged (stage_at (state_of k) p) _ (ap has (stage_here k p h) ∙ sym c.in-Some.ensures))
 
 pub returns : goal.returns
-returns c =
-    let k = c.args.self.now in
-    let p = c.in_ok-p.p in
-    let seat = c.in_ok-p.ensures in
-    subst (λ q. Ok c.row_of.result.1.version.root ≡ root_answer (meaning_of (state_of k)) q) seat.0
-    (root_says k p (omega (arith, seat)) c.in-Some.serial c.row_of.result.0 c.row_of.result.1.version.root c.in-Some.ensures c.row_of.ensures.value c.row_of.ensures.bound (sym (ap root_in c.row_of.ensures.row)))
+returns c = told _ (cc)
+  where
+    told : (r : ℕ) → r ≡ root_in (get_or c.args.self.now.rows c.row_of.result.0 None) → Ok r ≡ root_answer (meaning_of (state_of c.args.self.now)) c.args.program
+    told r is =
+        let k = c.args.self.now in
+        let p = c.in_ok-p.p in
+        let seat = c.in_ok-p.ensures in
+        subst (λ q. Ok r ≡ root_answer (meaning_of (state_of k)) q) seat.0
+        (root_says k p (omega (arith, seat)) c.in-Some.serial c.row_of.result.0 r c.in-Some.ensures c.row_of.ensures.value c.row_of.ensures.bound is)
